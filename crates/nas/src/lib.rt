@@ -1,0 +1,16 @@
+// UL and DL NAS TRANSPORT messages: reads an uplink message, writes the message that returns a payload,
+// and numbers the DNN names that a message may carry.
+mod cause;
+mod element;
+mod refusal;
+mod request_type;
+mod uplink;
+
+pub use cause::Cause;
+pub use refusal::Refusal;
+pub use request_type::RequestType;
+pub use uplink::MAX_PAYLOAD;
+pub use uplink::SessionId;
+pub use uplink::SliceCode;
+pub use uplink::Uplink;
+pub use uplink::read_uplink;
