@@ -1,1 +1,3 @@
 pub mod Passing
+pub mod Encoded
+pub mod Laws

@@ -1,21 +1,23 @@
 -- One step of the reader, over one element.
 use mathlib.Core.Path.{_≡_, refl, sym, ap, subst, _∙_}
 use mathlib.Core.List.{List, [], _∷_}
-use mathlib.Core.Bool.{false}
+use mathlib.Core.Bool.{true, false}
 use Prim.Native.Nat.{ℕ, zero, suc, _+_, _-_, _≤_, _<_}
 use native.Mathlib.Omega.{arith}
 use lib.Dec.{ltb}
 use lib.ListN.{length, take, drop}
+use Rattle.std.specs.declared.result.Result.{Result}
 use Rattle.std.specs.declared.result.Result.the-variants.{Ok, Err}
 use Rattle.std.proofs.shelf.Lists.{length-drop, take-rest}
-use Rattle.std.proofs.shelf.Tests.{cond-false, le-ltb}
+use Rattle.std.proofs.shelf.Tests.{cond-true, cond-false, lt-ltb, le-ltb}
 use Rattle.nas.specs.declared.element.Element.{Element}
 use Rattle.nas.specs.declared.element.Extent.{Extent}
 use Rattle.nas.specs.Elements.{octet, length-octets, contents-length, element}
 use Rattle.nas.specs.declared.refusal.Refusal.{Refusal}
+use Rattle.nas.specs.declared.refusal.Refusal.the-variants.{Overrun}
 use Rattle.nas.specs.Refusals.{refusal-number}
 use Rattle.nas.specs.Steps.{Extends, Passed, Stopped}
-use Rattle.nas.specs.Uplinks.{Parts, noted, nothing, walk, then, header, judged, read}
+use Rattle.nas.specs.Uplinks.{Parts, refuse, noted, nothing, walk, then, header, judged, read}
 
 -- an element that fits the octets behind its first one
 pub fitting : (x : ℕ) (behind : List ℕ) → 16 ≤ x → length-octets x + contents-length x behind ≤ length behind → element x behind ≡ Ok (record { size = length-octets x + contents-length x behind; contents = take (contents-length x behind) (drop (length-octets x) behind) })
@@ -23,6 +25,13 @@ fitting x behind known fits =
     let n1 : ltb x 16 ≡ false = le-ltb _ _ known in
     let n2 : ltb (length behind) (length-octets x + contents-length x behind) ≡ false = le-ltb _ _ fits in
     cond-false _ _ _ n1 ∙ cond-false _ _ _ n2
+
+-- an element that runs past them
+pub overrunning : (x : ℕ) (behind : List ℕ) → 16 ≤ x → length behind < length-octets x + contents-length x behind → element x behind ≡ refuse Overrun
+overrunning x behind known over =
+    let n1 : ltb x 16 ≡ false = le-ltb _ _ known in
+    let n2 : ltb (length behind) (length-octets x + contents-length x behind) ≡ true = lt-ltb _ _ over in
+    cond-false _ _ _ n1 ∙ cond-true _ _ _ n2
 
 extended : (x : ℕ) (behind : List ℕ) (e : Extent) → Extends x behind e → element x behind ≡ Ok (record { size = e .«length_octets» + e .contents; contents = take (e .contents) (drop (e .«length_octets») behind) })
 extended x behind e h =
@@ -77,8 +86,13 @@ module _ (p : Parts) (e : Element) (ys : List ℕ) where
 
 -- ---- the whole message, once its header is known
 
-pub read-behind : (xs : List ℕ) (n : ℕ) → header xs ≡ Ok n → read xs ≡ then (walk 0 nothing (take (length xs - (6 + n)) (drop (6 + n) xs))) (λ p. judged (take (6 + n - 6) (drop 6 xs)) p (p .session))
-read-behind xs n h =
+pub read-refused : (xs : List ℕ) (n : ℕ) → header xs ≡ Err n → read xs ≡ Err n
+read-refused xs n h = ap (λ r. then r (λ k. then (walk 0 nothing (drop (6 + k) xs)) (judged (take k (drop 6 xs))))) h
+
+-- and once it is known what its elements, as the code cuts them off, say
+pub read-parts : (xs : List ℕ) (n : ℕ) (r : Result Parts ℕ) → header xs ≡ Ok n → walk 0 nothing (take (length xs - (6 + n)) (drop (6 + n) xs)) ≡ r → read xs ≡ then r (judged (take (6 + n - 6) (drop 6 xs)))
+read-parts xs n r h e =
     let same : n ≡ 6 + n - 6 = omega arith in
-    ap (λ r. then r (λ k. then (walk 0 nothing (drop (6 + k) xs)) (λ p. judged (take k (drop 6 xs)) p (p .session)))) h
-    ∙ (λ i. then (walk 0 nothing (sym (take-rest xs (6 + n)) i)) (λ p. judged (take (same i) (drop 6 xs)) p (p .session)))
+    ap (λ q. then q (λ k. then (walk 0 nothing (drop (6 + k) xs)) (judged (take k (drop 6 xs))))) h
+    ∙ (λ i. then (walk 0 nothing (sym (take-rest xs (6 + n)) i)) (judged (take (same i) (drop 6 xs))))
+    ∙ ap (λ q. then q (judged (take (6 + n - 6) (drop 6 xs)))) e

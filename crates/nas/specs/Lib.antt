@@ -5,3 +5,4 @@ pub mod Elements
 pub mod Steps
 pub mod Uplinks
 pub mod Views
+pub mod Messages

@@ -35,17 +35,28 @@ pub record Parts : Type 0 where
 abbrev pub nothing : Parts
 nothing = record { session = None; old = None; request = None; slice = None; dnn = None }
 
--- what came first, or else what comes now
-abbrev pub else : {X : Type 0} → Option X → Option X → Option X
-else None o = o
-else (Some x) o = Some x
-
 abbrev pub front : List ℕ → Option ℕ
 front [] = None
 front (x ∷ xs) = Some x
 
+-- ---- the kinds of elements that say something
+
+abbrev pub session-id : ℕ → Bool
+session-id x = eqb x 0x12
+
+abbrev pub old-session-id : ℕ → Bool
+old-session-id x = eqb x 0x59
+
 abbrev pub request-kind : ℕ → Bool
 request-kind x = leb 0x80 x && ltb x 0x90
+
+abbrev pub s-nssai : ℕ → Bool
+s-nssai x = eqb x 0x22
+
+abbrev pub dnn-name : ℕ → Bool
+dnn-name x = eqb x 0x25
+
+-- ---- what their contents say
 
 -- the low three bits; 0 is read as 1
 abbrev pub request-bits : ℕ → ℕ
@@ -68,20 +79,34 @@ dnn-length n = ltb 0 n && ltb n 101
 abbrev pub dnn-in : List ℕ → Result (List ℕ) ℕ
 dnn-in c = cond (dnn-length (length c)) (Ok c) (refuse ElementLength)
 
--- a repeat is not judged
-abbrev pub fresh : {X : Type 0} → Option X → Result X ℕ → Result (Option X) ℕ
-fresh (Some x) r = Ok (Some x)
-fresh None (Ok x) = Ok (Some x)
-fresh None (Err n) = Err n
+-- ---- what is known of a part, and what an element adds to it if it is of the part's kind
 
+abbrev pub else : {X : Type 0} → Option X → Option X → Option X
+else None o = o
+else (Some x) o = Some x
+
+abbrev pub first-if : {X : Type 0} → Bool → Option X → Option X → Option X
+first-if false o new = o
+first-if true o new = else o new
+
+-- where the element's contents may be refused; those of a repeat are not judged
+abbrev pub checked-if : {X : Type 0} → Bool → Option X → Result X ℕ → Result (Option X) ℕ
+checked-if false o new = Ok o
+checked-if true (Some x) new = Ok (Some x)
+checked-if true None new = then new (λ x. Ok (Some x))
+
+-- the element of first octet x with the contents c
 abbrev pub noted : Parts → ℕ → List ℕ → Result Parts ℕ
 noted p x c =
-    cond (eqb x 0x12) (Ok (record { session = else (p .session) (front c); old = p .old; request = p .request; slice = p .slice; dnn = p .dnn }))
-    (cond (eqb x 0x59) (Ok (record { session = p .session; old = else (p .old) (front c); request = p .request; slice = p .slice; dnn = p .dnn }))
-    (cond (eqb x 0x22) (then (fresh (p .slice) (slice-in c)) (λ s. Ok (record { session = p .session; old = p .old; request = p .request; slice = s; dnn = p .dnn })))
-    (cond (eqb x 0x25) (then (fresh (p .dnn) (dnn-in c)) (λ d. Ok (record { session = p .session; old = p .old; request = p .request; slice = p .slice; dnn = d })))
-    (cond (request-kind x) (Ok (record { session = p .session; old = p .old; request = else (p .request) (Some (request-bits x)); slice = p .slice; dnn = p .dnn }))
-    (Ok p)))))
+    then (checked-if (s-nssai x) (p .slice) (slice-in c)) (λ s.
+    then (checked-if (dnn-name x) (p .dnn) (dnn-in c)) (λ d.
+    Ok (record {
+      session = first-if (session-id x) (p .session) (front c);
+      old = first-if (old-session-id x) (p .old) (front c);
+      request = first-if (request-kind x) (p .request) (Some (request-bits x));
+      slice = s;
+      dnn = d;
+    })))
 
 -- the elements in a row, k octets passed over first
 unfoldable pub walk : ℕ → Parts → List ℕ → Result Parts ℕ
@@ -111,13 +136,17 @@ abbrev pub request-fits : Option ℕ → Bool
 request-fits None = true
 request-fits (Some r) = isSome (request-in r)
 
--- the message, if its sessions and its request type can be served
-abbrev pub judged : List ℕ → Parts → Option ℕ → Result Message ℕ
-judged payload p None = refuse SessionBounds
-judged payload p (Some s) =
+-- the message of the session s
+abbrev pub judged-at : List ℕ → Parts → Option ℕ → Result Message ℕ
+judged-at payload p None = refuse SessionBounds
+judged-at payload p (Some s) =
     cond (in-range s && old-fits s (p .old))
     (cond (request-fits (p .request)) (Ok (record { payload = payload; session = s; old = p .old; request = p .request; slice = p .slice; dnn = p .dnn })) (refuse UnknownRequest))
     (refuse SessionBounds)
+
+-- the message, if its sessions and its request type can be served
+abbrev pub judged : List ℕ → Parts → Result Message ℕ
+judged payload p = judged-at payload p (p .session)
 
 -- the payload's length
 abbrev pub header : List ℕ → Result ℕ ℕ
@@ -133,4 +162,4 @@ header xs =
 
 abbrev pub read : List ℕ → Result Message ℕ
 read xs =
-    then (header xs) (λ n. then (walk 0 nothing (drop (6 + n) xs)) (λ p. judged (take n (drop 6 xs)) p (p .session)))
+    then (header xs) (λ n. then (walk 0 nothing (drop (6 + n) xs)) (judged (take n (drop 6 xs))))

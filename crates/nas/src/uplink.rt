@@ -3,7 +3,8 @@ ghost use mathlib.Core.Path.{_≡_};
 ghost use Rattle.std.specs.declared.result.Result.the-variants.{Ok, Err};
 ghost use Rattle.std.specs.Results.{Cases};
 ghost use Rattle.nas.specs.Refusals.{refusal-number};
-ghost use Rattle.nas.specs.Uplinks.{header, read, judged, noted, nothing, walk, slice-in};
+ghost use Rattle.nas.specs.Uplinks.{header, judged, noted, nothing, walk, slice-in};
+ghost use Rattle.nas.specs.Messages.{Reads};
 ghost use Rattle.nas.specs.Views.{parts, answer};
 use crate::element::DNN;
 use crate::element::Element;
@@ -139,7 +140,7 @@ impl<'a> Parts<'a> {
 
     // The message, if its sessions and its request type can be served.
     fn judge(self, payload: &'a [u8]) -> Result<Uplink<'a>, Refusal>
-        ensures { λ r. ⌜ answer r ≡ judged (now (payload .entry)) (parts (self .entry)) (self .entry .session) ⌝ }
+        ensures { λ r. ⌜ answer r ≡ judged (now (payload .entry)) (parts (self .entry)) ⌝ }
     {
         let Some(session) = self.session else {
             return Err(Refusal::SessionBounds);
@@ -170,7 +171,7 @@ impl<'a> Parts<'a> {
 }
 
 pub fn read_uplink(octets: &[u8]) -> Result<Uplink<'_>, Refusal>
-    ensures value { λ r. ⌜ answer r ≡ read (now (octets .entry)) ⌝ }
+    ensures { λ r. ⌜ Reads (now (octets .entry)) (answer r) ⌝ }
 {
     let length = read_header(octets)?;
     let end = 6 + length;
