@@ -1,3 +1,4 @@
 pub mod Passing
 pub mod Encoded
 pub mod Laws
+pub mod Fronts

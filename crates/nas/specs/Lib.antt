@@ -6,3 +6,4 @@ pub mod Steps
 pub mod Uplinks
 pub mod Views
 pub mod Messages
+pub mod Returns

@@ -21,6 +21,11 @@ parts f = record { session = f .session; old = f .«old_session»; request = f .
 abbrev pub message : Uplink → Message
 message u = record { payload = u .payload .now; session = u .session; old = u .«old_session»; request = mapped request-number (u .«request_type»); slice = u .slice; dnn = mapped octets (u .dnn) }
 
+-- a refusal by its number
+abbrev pub numbered : {X : Type 0} → Result X Refusal → Result X ℕ
+numbered (Ok x) = Ok x
+numbered (Err e) = Err (refusal-number e)
+
 -- the message, or the refusal by its number
 abbrev pub answer : Result Uplink Refusal → Result Message ℕ
 answer (Ok u) = Ok (message u)

@@ -4,11 +4,15 @@ mod cause;
 mod element;
 mod refusal;
 mod request_type;
+mod returned;
 mod uplink;
 
 pub use cause::Cause;
 pub use refusal::Refusal;
 pub use request_type::RequestType;
+pub use returned::RETURN_HEADER;
+pub use returned::RETURN_OVERHEAD;
+pub use returned::write_return;
 pub use uplink::MAX_PAYLOAD;
 pub use uplink::SessionId;
 pub use uplink::SliceCode;

@@ -7,7 +7,7 @@ use Rattle.nas.proofs.uplink.read_uplink.Needs as need
 pub returns-in-Break-length : need.returns-in-Break-length
 returns-in-Break-length c =
     let p = err-from-errBy (c .from-residual .result) (c .from-residual .ensures .1) in
-    lawful _ _ (rw (p .1, p .2) (sym (read-refused _ _ (c .in-Break-length .ensures tt))))
+    lawful _ _ (rw (p .1, p .2) (sym (read-refused (c .args .octets .now) _ (c .in-Break-length .ensures tt))))
 
 pub returns-in-Break-parts : need.returns-in-Break-parts
 returns-in-Break-parts c =
