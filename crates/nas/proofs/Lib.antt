@@ -2,3 +2,4 @@ pub mod Passing
 pub mod Encoded
 pub mod Laws
 pub mod Fronts
+pub mod Naming

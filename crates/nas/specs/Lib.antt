@@ -7,3 +7,5 @@ pub mod Uplinks
 pub mod Views
 pub mod Messages
 pub mod Returns
+pub mod Names
+pub mod OwnNames

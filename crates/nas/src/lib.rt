@@ -1,13 +1,21 @@
 // UL and DL NAS TRANSPORT messages: reads an uplink message, writes the message that returns a payload,
 // and numbers the DNN names that a message may carry.
+mod book;
+mod book_error;
 mod cause;
 mod element;
+mod name;
 mod refusal;
 mod request_type;
 mod returned;
 mod uplink;
 
+pub use book::Book;
+pub use book::DnnNumber;
+pub use book_error::BookError;
+pub use book_error::BookErrorFromAlloc;
 pub use cause::Cause;
+pub use name::same_name;
 pub use refusal::Refusal;
 pub use request_type::RequestType;
 pub use returned::RETURN_HEADER;
