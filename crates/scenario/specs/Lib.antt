@@ -1,0 +1,4 @@
+pub mod Absent
+pub mod Number
+pub mod Octets
+pub mod Words
