@@ -18,6 +18,7 @@ use Rattle.nas.specs.Uplinks.{Message, nothing, refuse, s-nssai, dnn-name, wal
 use Rattle.nas.specs.Messages.{Ie, encoded, Formed, first-of, firsts, Well-formed, framed, message, Reads}
 use Rattle.nas.proofs.Passing.{read-refused}
 use Rattle.nas.proofs.Encoded.{walk-all, walk-cut, with-all}
+use Rattle.nas.proofs.Accepted.{only-messages}
 
 -- ---- a frame, whatever stands behind its payload
 
@@ -125,4 +126,5 @@ lawful xs r value = record {
   first-counts = λ a b payload es w is. value ∙ ap read is ∙ first-counts a b payload es w;
   cut-in-payload = λ a b payload es k w h is. value ∙ ap read is ∙ cut-in-payload a b payload es k w h;
   cut-in-element = λ a b payload before e after k w h i is. value ∙ ap read is ∙ cut-in-element a b payload before e after k w h i;
+  only-messages = λ all m is. only-messages xs all m (sym value ∙ is);
 }

@@ -1,5 +1,6 @@
 pub mod Passing
 pub mod Encoded
+pub mod Accepted
 pub mod Laws
 pub mod Fronts
 pub mod Naming

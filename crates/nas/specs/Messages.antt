@@ -8,6 +8,7 @@ use lib.ListN.{length, take}
 use Rattle.std.specs.declared.option.Option.{Option}
 use Rattle.std.specs.declared.option.Option.the-variants.{Some, None}
 use Rattle.std.specs.declared.result.Result.{Result}
+use Rattle.std.specs.declared.result.Result.the-variants.{Ok}
 use Rattle.std.specs.Joined.{joined}
 use Rattle.std.specs.Options.{mapped}
 use Rattle.std.specs.shelf.Lists.{All}
@@ -70,6 +71,15 @@ framed a b payload behind =
 abbrev pub message : ℕ → ℕ → List ℕ → List Ie → List ℕ
 message a b payload es = framed a b payload (joined encoded es)
 
+-- how octets are put together as a message; second and fourth are the spare halves of those octets
+pub record Composed (xs : List ℕ) : Type 0 where
+  pub second : ℕ
+  pub fourth : ℕ
+  pub payload : List ℕ
+  pub es : List Ie
+  pub formed : Well-formed payload es
+  pub is : xs ≡ message second fourth payload es
+
 -- ---- what holds of every answer r to the octets xs
 
 -- A well-formed message is read as the first element of each kind, whatever the order of its elements,
@@ -89,9 +99,14 @@ abbrev pub Cut-in-element : List ℕ → Result Message ℕ → Type 0
 Cut-in-element xs r =
     (a b : ℕ) (payload : List ℕ) (before : List Ie) (e : Ie) (after : List Ie) (k : ℕ) → Well-formed payload (before ++ e ∷ after) → length (message a b payload before) < k → k < length (message a b payload (before ++ e ∷ [])) → xs ≡ take k (message a b payload (before ++ e ∷ after)) → r ≡ refuse Overrun
 
+-- Only well-formed messages are accepted.
+abbrev pub Only-messages : List ℕ → Result Message ℕ → Type 0
+Only-messages xs r = All (λ x. x < 256) xs → (m : Message) → r ≡ Ok m → Composed xs
+
 -- the answer is the one that the definition gives, and keeps these laws
 pub record Reads (xs : List ℕ) (r : Result Message ℕ) : Type 0 where
   pub value : r ≡ read xs
   pub first-counts : First-counts xs r
   pub cut-in-payload : Cut-in-payload xs r
   pub cut-in-element : Cut-in-element xs r
+  pub only-messages : Only-messages xs r

@@ -18,8 +18,8 @@ octets r = r .now
 abbrev pub parts : code.Parts → Parts
 parts f = record { session = f .session; old = f .«old_session»; request = f .request; slice = f .slice; dnn = mapped octets (f .dnn) }
 
-abbrev pub message : Uplink → Message
-message u = record { payload = u .payload .now; session = u .session; old = u .«old_session»; request = mapped request-number (u .«request_type»); slice = u .slice; dnn = mapped octets (u .dnn) }
+abbrev pub decoded : Uplink → Message
+decoded u = record { payload = u .payload .now; session = u .session; old = u .«old_session»; request = mapped request-number (u .«request_type»); slice = u .slice; dnn = mapped octets (u .dnn) }
 
 -- a refusal by its number
 abbrev pub numbered : {X : Type 0} → Result X Refusal → Result X ℕ
@@ -28,5 +28,5 @@ numbered (Err e) = Err (refusal-number e)
 
 -- the message, or the refusal by its number
 abbrev pub answer : Result Uplink Refusal → Result Message ℕ
-answer (Ok u) = Ok (message u)
+answer (Ok u) = Ok (decoded u)
 answer (Err e) = Err (refusal-number e)

@@ -1,6 +1,6 @@
 -- A number is read from its digits, and from what `{n}` writes.
 use mathlib.Core.Path.{_≡_, refl, sym, ap, _∙_}
-use mathlib.Core.Bool.{true}
+use mathlib.Core.Bool.{true, false}
 use mathlib.Core.List.{List, [], _∷_}
 use mathlib.Core.Logic.{⊎-elim}
 use Prim.Native.Nat.{ℕ, _^_, _<_}
@@ -19,10 +19,11 @@ use Rattle.std.specs.Written.{decimal}
 use Rattle.std.specs.shelf.Text.{allDigits}
 use Rattle.std.proofs.shelf.Decimals.{ascii-from-digits, decimal-some, digits-decimal, value-decimal}
 use Rattle.std.proofs.shelf.Numerals.{Numerals, numerals-by-fold, parse-plain}
-use Rattle.std.proofs.shelf.Tests.{and-from, cases-bool, cond-true, lt-ltb}
+use Rattle.std.proofs.shelf.Tests.{and-from, cases-bool, cond-true, eqb-true, eqb-false, lt-ltb}
 use Rattle.std.proofs.shelf.Text.{utf8-from-ascii}
 use Rattle.std.proofs.shelf.Ways.{tells}
 use Rattle.scenario.specs.Number.{number-after, number-in}
+use Rattle.scenario.specs.Words.{begins-with}
 
 own : Numerals (λ ds. allDigits ds ≡ true) (number-after 0)
 own = numerals-by-fold _ (search needs) number-after (search needs)
@@ -38,9 +39,13 @@ number-back n h =
 pub number-law : {xs : List ℕ} {r : Option ℕ} → r ≡ number-in xs → (n : ℕ) → n < 2 ^ 64 → xs ≡ decimal n → r ≡ Some n
 number-law v n h e = v ∙ ap number-in e ∙ number-back n h
 
-pub no-sign : (xs : List ℕ) → getD xs 0 0 ≡ 0x2B → number-in xs ≡ None
+pub no-sign : (xs : List ℕ) → begins-with 0x2B xs ≡ true → number-in xs ≡ None
 no-sign [] e = refl
-no-sign (c ∷ cs) e = ap (λ d. number-in (d ∷ cs)) e
+no-sign (c ∷ cs) e = ap (λ d. number-in (d ∷ cs)) (eqb-true c 0x2B e)
+
+pub plain : (xs : List ℕ) → begins-with 0x2B xs ≡ false → getD xs 0 0 ≡ 0x2B → ⊥
+plain [] e f = absurd (omega arith)
+plain (c ∷ cs) e f = eqb-false c 0x2B e f
 
 -- digits are text
 pub no-text : (xs : List ℕ) → (Utf8 xs → ⊥) → number-in xs ≡ None

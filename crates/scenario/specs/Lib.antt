@@ -1,4 +1,5 @@
 pub mod Absent
 pub mod Number
 pub mod Octets
+pub mod Slice
 pub mod Words

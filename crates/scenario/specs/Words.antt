@@ -1,6 +1,6 @@
 -- The words of a line.
 use mathlib.Core.Path.{_≡_}
-use mathlib.Core.Bool.{cond}
+use mathlib.Core.Bool.{Bool, false, cond}
 use mathlib.Core.List.{List, [], _∷_, _++_}
 use Prim.Native.Nat.{ℕ, _<_}
 use denote.Ref.{RefT}
@@ -11,6 +11,10 @@ use Rattle.std.specs.shelf.Lists.{All}
 -- what a slice of octets holds
 abbrev pub text : RefT (List ℕ) → List ℕ
 text r = r .now
+
+abbrev pub begins-with : ℕ → List ℕ → Bool
+begins-with x [] = false
+begins-with x (y ∷ ys) = eqb y x
 
 -- w before ws, unless w is empty
 abbrev pub word-before : List ℕ → List (List ℕ) → List (List ℕ)

@@ -2,6 +2,7 @@
 mod absent;
 mod number;
 mod octets;
+mod slice;
 mod words;
 
 pub use absent::OrAbsent;
@@ -10,6 +11,9 @@ pub use number::parse_number;
 pub use octets::Octets;
 pub use octets::OctetsDisplay;
 pub use octets::parse_octets;
+pub use slice::Slice;
+pub use slice::SliceDisplay;
+pub use words::begins_with;
 pub use words::split_words;
 
 #[cfg(test)]
@@ -53,6 +57,8 @@ mod tests {
     fn writes_words(rt: LibcRuntime) -> Result<(), Fail> {
         let octets = Octets(&[0x2E, 0x01, 0xC1]).to_string(rt.alloc())?;
         check_eq(octets.as_str(), "2E01C1")?;
+        let slice = Slice(0x01_00_AB_0F).to_string(rt.alloc())?;
+        check_eq(slice.as_str(), "0100AB0F")?;
         let absent = OrAbsent::<u64>(None).to_string(rt.alloc())?;
         check_eq(absent.as_str(), "-")
     }

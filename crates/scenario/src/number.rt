@@ -1,17 +1,10 @@
 // A word that is a decimal number.
 ghost use mathlib.Core.Path.{_≡_};
 ghost use Prim.Native.Nat.{ℕ, _^_, _<_};
-ghost use lib.Dec.{eqb};
-ghost use lib.ListN.{getD};
 ghost use Rattle.std.specs.Written.{decimal};
 ghost use Rattle.std.specs.declared.option.Option.the-variants.{Some};
 ghost use Rattle.scenario.specs.Number.{number-in};
-
-fn has_sign(word: &[u8]) -> bool
-    ensures { λ r. ⌜ r ≡ eqb (getD (now (word .entry)) 0 0) 0x2B ⌝ }
-{
-    word.len() > 0 && word[0] == b'+'
-}
+use crate::words::begins_with;
 
 // `None` where the word is no number, or one that 64 bits do not hold.
 pub fn parse_number(word: &[u8]) -> Option<u64>
@@ -19,7 +12,7 @@ pub fn parse_number(word: &[u8]) -> Option<u64>
     ensures reads_back { λ r. ⌜ ((n : ℕ) → n < 2 ^ 64 → now (word .entry) ≡ decimal n → r ≡ Some n) ⌝ }
 {
     // `parse` takes a sign, and a number in a scenario has none.
-    if has_sign(word) {
+    if begins_with(word, b'+') {
         return None;
     }
     match std::str::from_utf8(word) {

@@ -5,11 +5,17 @@ ghost use Prim.Native.Nat.{ℕ};
 ghost use Rattle.std.specs.Of.Vec.{vec-items};
 ghost use Rattle.std.specs.Vec.{made};
 ghost use Rattle.std.specs.shelf.Lists.{All};
-ghost use Rattle.scenario.specs.Words.{text, words, Word, spaced};
+ghost use Rattle.scenario.specs.Words.{text, begins-with, words, Word, spaced};
 use std::alloc::AllocError;
 use std::alloc::Global;
 
 const SPACE: u8 = 0x20;
+
+pub fn begins_with(text: &[u8], octet: u8) -> bool
+    ensures { λ r. ⌜ r ≡ begins-with octet (now (text .entry)) ⌝ }
+{
+    text.len() > 0 && text[0] == octet
+}
 
 // The words borrow the line, so only the list of them is allocated.
 pub fn split_words<'a>(heap: Global, line: &'a [u8]) -> Result<Vec<&'a [u8]>, AllocError>
