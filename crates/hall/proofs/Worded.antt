@@ -1,12 +1,12 @@
 -- The words of a line, and the command that they make.
 use mathlib.Core.Path.{_≡_, refl, sym, ap, _∙_}
-use mathlib.Core.List.{List, [], _∷_, map}
+use mathlib.Core.List.{List, [], _∷_, _++_, map}
 use mathlib.Core.Bool.{Bool, true, false}
-use Prim.Native.Nat.{ℕ}
+use Prim.Native.Nat.{ℕ, _+_, _-_, _<_}
 use native.Mathlib.Omega.{arith}
 use denote.Ref.{RefT}
 use lib.Chars.{codes}
-use lib.ListN.{length, getD}
+use lib.ListN.{length, getD, take}
 use Rattle.std.specs.declared.option.Option.{Option}
 use Rattle.std.specs.declared.option.Option.the-variants.{Some, None}
 use Rattle.std.specs.Lexical.{Matches}
@@ -14,6 +14,7 @@ use Rattle.std.specs.Options.{mapped}
 use Rattle.std.specs.Orderings.{Decides}
 use Rattle.std.specs.shelf.Text.{sameBytes}
 use Rattle.std.proofs.shelf.Equals.{sameBytes-decides}
+use Rattle.std.proofs.shelf.Lists.{take-all, take-more}
 use Rattle.std.proofs.shelf.Tests.{cond-true, cond-false}
 use Rattle.std.proofs.shelf.Ways.{same-from-decides}
 use Rattle.scenario.specs.Octets.{octets-in}
@@ -45,3 +46,9 @@ module _ (words rest : List (RefT (List ℕ))) (verb : RefT (List ℕ)) (b : Boo
 
   pub verb-other : b ≡ false → command-words (map text words) ≡ None
   verb-other e = ap (λ ws. command-words (map text ws)) are ∙ cond-false _ _ _ (same-verb ∙ e)
+
+-- a line that ends in a line feed, cut in front of it
+pub cut-feed : (xs : List ℕ) (n : ℕ) → 0 < length xs → n ≡ length xs - 1 → getD xs (length xs - 1) 0 ≡ 0x0A → xs ≡ take n xs ++ 0x0A ∷ []
+cut-feed xs n some is last =
+    let within : n < length xs = omega arith in
+    sym (take-all (n + 1) xs (omega arith)) ∙ take-more xs n 0 within ∙ ap (λ x. take n xs ++ x ∷ []) (ap (λ k. getD xs k 0) is ∙ last)

@@ -1,10 +1,12 @@
 -- What a line of a scenario asks for, and what it prints.
+use mathlib.Core.Path.{_≡_}
+use mathlib.Core.Logic.{_⊎_}
 use mathlib.Core.Bool.{Bool, cond, _||_}
 use mathlib.Core.List.{List, [], _∷_, _++_}
-use Prim.Native.Nat.{ℕ}
+use Prim.Native.Nat.{ℕ, _-_}
 use lib.Chars.{codes}
 use lib.Dec.{eqb}
-use lib.ListN.{length}
+use lib.ListN.{length, getD}
 use Rattle.std.specs.declared.option.Option.{Option}
 use Rattle.std.specs.declared.option.Option.the-variants.{Some, None}
 use Rattle.std.specs.declared.result.Result.{Result}
@@ -17,6 +19,10 @@ use Rattle.nas.specs.Uplinks.{Message}
 use Rattle.scenario.specs.Octets.{octets-in, octets-text}
 use Rattle.scenario.specs.Slice.{slice-octets}
 use Rattle.scenario.specs.Words.{begins-with, words}
+
+-- the line xs without the line feed at its end, if it has one
+abbrev pub Unended : List ℕ → List ℕ → Type 0
+Unended xs ys = (xs ≡ ys ++ 0x0A ∷ []) ⊎ ((ys ≡ xs) × (getD xs (length xs - 1) 0 ≡ 0x0A → ⊥))
 
 -- ---- what a line asks for
 

@@ -1,4 +1,6 @@
 // Plays a scenario: one command a line on standard input, one line printed for each.
+ghost use Rattle.hall.specs.Lines.{Unended};
+
 mod answer;
 mod command;
 
@@ -7,11 +9,15 @@ use std::error::AnyError;
 use std::io::BufRead;
 use std::io::BufReader;
 
-// A line without the line feed that ends it.
-fn without_feed(line: &[u8]) -> &[u8] {
-    match line {
-        [text @ .., b'\n'] => text,
-        _ => line,
+// A line without the line feed that ends it, if one does.
+fn without_feed(line: &[u8]) -> &[u8]
+    ensures { λ r. ⌜ Unended (now (line .entry)) (now r) ⌝ }
+{
+    let end = line.len();
+    if end > 0 && line[end - 1] == b'\n' {
+        &line[0..end - 1]
+    } else {
+        line
     }
 }
 
