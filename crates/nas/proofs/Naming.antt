@@ -1,28 +1,61 @@
 -- Names, and the search for one.
 use mathlib.Core.Path.{_≡_, refl, sym, ap, subst, _∙_}
-use mathlib.Core.Bool.{Bool, true, false, cond}
+use mathlib.Core.Bool.{Bool, true, false, cond, _&&_}
 use mathlib.Core.List.{List, [], _∷_, _++_}
 use Prim.Native.Nat.{ℕ, suc, _+_, _-_, _≤_, _<_}
 use native.Mathlib.Omega.{arith}
 use borrow.Author.Needs.{needs}
 use lib.ListN.{length, getD, take, drop}
 use Rattle.std.specs.Orderings.{Decides}
-use Rattle.std.proofs.shelf.Lists.{at-drop-more, at-drop-all, getD-map, getD-take, take-map, take-more, map-push, length-map, length-take-le}
-use Rattle.std.proofs.shelf.Tests.{cond-true, cond-false}
+use Rattle.std.proofs.shelf.Lists.{at-drop-more, at-drop-all, drop-more, drop-all, getD-map, getD-take, take-map, take-more, map-push, length-map, length-take-le}
+use Rattle.std.proofs.shelf.Tests.{cond-true, cond-false, and-left, and-right}
+use Rattle.std.proofs.shelf.Ways.{decides-at}
 use borrow.Author.Count.{below-more}
 use Rattle.std.proofs.shelf.Equals.{Compares, compares-decides}
 use denote.Ref.{RefT}
 use Rattle.std.specs.Of.Vec.{vec-items}
 use Rattle.nas.specs.declared.name.Name.{Name}
 use Rattle.nas.specs.OwnNames.{own-names, lent-names}
-use Rattle.nas.specs.Names.{same-name, names-of, number-from, number-of, Numbers, Follows, Good-names}
+use Rattle.nas.specs.Names.{same-octet, same-name, Same, names-of, number-from, number-of, Numbers, Follows, Good-names}
 
 same-name-compares : Compares same-name
 unfolding same-name
 same-name-compares = search needs
 
-pub same-name-decides : (xs ys : List ℕ) → Decides (same-name xs ys) (xs ≡ ys)
+same-name-decides : (xs ys : List ℕ) → Decides (same-name xs ys) (xs ≡ ys)
 same-name-decides xs ys = compares-decides same-name same-name-compares xs ys
+
+pub same : (xs ys : List ℕ) (r : Bool) → r ≡ same-name xs ys → Same xs ys r
+same xs ys r e = record { value = e; equal = decides-at r _ e (same-name-decides xs ys) }
+
+pub other-length : (xs ys : List ℕ) → (length xs ≡ length ys → ⊥) → same-name xs ys ≡ false
+unfolding same-name
+other-length [] [] h = absurd (h refl)
+other-length [] (y ∷ ys) h = refl
+other-length (x ∷ xs) [] h = refl
+other-length (x ∷ xs) (y ∷ ys) h = and-right _ _ (other-length xs ys (λ e. h (ap suc e)))
+
+-- two names of one length, of which the first i octets are the same
+pub record Alike (xs ys : List ℕ) (i : ℕ) : Type 0 where
+  pub long : length xs ≡ length ys
+  pub rest : same-name (drop i xs) (drop i ys) ≡ same-name xs ys
+
+module _ (xs ys : List ℕ) (i : ℕ) (h : Alike xs ys i) where
+  at-octet : i < length xs → same-name xs ys ≡ (same-octet (getD xs i 0) (getD ys i 0) && same-name (drop (i + 1) xs) (drop (i + 1) ys))
+  unfolding same-name
+  at-octet within =
+      let also : i < length ys = omega (arith, h .long) in
+      sym (h .rest) ∙ (λ k. same-name (drop-more xs i 0 within k) (drop-more ys i 0 also k))
+
+  pub alike-more : i < length xs → same-octet (getD xs i 0) (getD ys i 0) ≡ true → Alike xs ys (i + 1)
+  alike-more within e = record { long = h .long; rest = sym (at-octet within ∙ ap (λ b. b && same-name (drop (i + 1) xs) (drop (i + 1) ys)) e) }
+
+  pub unlike : i < length xs → same-octet (getD xs i 0) (getD ys i 0) ≡ false → same-name xs ys ≡ false
+  unlike within e = at-octet within ∙ and-left _ _ e
+
+  pub all-alike : length xs ≤ i → same-name xs ys ≡ true
+  unfolding same-name
+  all-alike end = sym (h .rest) ∙ (λ k. same-name (drop-all i xs end k) (drop-all i ys (omega (arith, h .long)) k))
 
 -- none of the first i names is the same as x
 pub record Searched (names : List (List ℕ)) (x : List ℕ) (i : ℕ) : Type 0 where

@@ -7,5 +7,6 @@ pub mod Uplinks
 pub mod Views
 pub mod Messages
 pub mod Returns
+pub mod Sample
 pub mod Names
 pub mod OwnNames

@@ -5,13 +5,22 @@ use mathlib.Core.List.{List, [], _∷_, map}
 use Prim.Native.Nat.{ℕ, suc, _-_, _≤_, _<_}
 use lib.Dec.{eqb}
 use lib.ListN.{length, getD}
+use Rattle.std.specs.Orderings.{Decides}
+
+abbrev pub same-octet : ℕ → ℕ → Bool
+same-octet x y = eqb x y
 
 -- octet by octet
 unfoldable pub same-name : List ℕ → List ℕ → Bool
 same-name [] [] = true
 same-name [] (y ∷ ys) = false
 same-name (x ∷ xs) [] = false
-same-name (x ∷ xs) (y ∷ ys) = eqb x y && same-name xs ys
+same-name (x ∷ xs) (y ∷ ys) = same-octet x y && same-name xs ys
+
+-- r says whether xs and ys are the same name, which they are exactly where their octets are equal
+pub record Same (xs ys : List ℕ) (r : Bool) : Type 0 where
+  pub value : r ≡ same-name xs ys
+  pub equal : Decides r (xs ≡ ys)
 
 -- the octets of each name, which f gives
 abbrev pub names-of : {X : Type 0} → (X → List ℕ) → List X → List (List ℕ)

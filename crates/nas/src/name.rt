@@ -4,15 +4,28 @@ ghost use mathlib.Core.Path.{_≡_};
 ghost use Prim.Native.Nat.{ℕ};
 ghost use denote.Ref.{now};
 ghost use Rattle.std.specs.Of.Vec.{vec-items};
-ghost use Rattle.std.specs.Orderings.{Decides};
-ghost use Rattle.nas.specs.Names.{same-name, Numbers, names-of};
+ghost use Rattle.nas.specs.Names.{same-octet, Same, Numbers, names-of};
+
+// Whether two octets are the same in a name.
+fn same_octet(a: u8, b: u8) -> bool
+    ensures { λ r. ⌜ r ≡ same-octet a b ⌝ }
+{
+    a == b
+}
 
 // Whether two names are the same. Everything that compares names goes by this.
 pub fn same_name(a: &[u8], b: &[u8]) -> bool
-    ensures value { λ r. ⌜ r ≡ same-name (now (a .entry)) (now (b .entry)) ⌝ }
-    ensures law { λ r. ⌜ Decides r (now (a .entry) ≡ now (b .entry)) ⌝ }
+    ensures { λ r. ⌜ Same (now (a .entry)) (now (b .entry)) r ⌝ }
 {
-    a == b
+    if a.len() != b.len() {
+        return false;
+    }
+    for (i, octet) in a.iter().enumerate() {
+        if !same_octet(*octet, b[i]) {
+            return false;
+        }
+    }
+    true
 }
 
 // What holds the octets of a name, its own or lent ones.

@@ -14,6 +14,7 @@ use crate::element::S_NSSAI;
 use crate::element::SESSION_ID;
 use crate::refusal::Refusal;
 use crate::request_type::RequestType;
+use crate::request_type::RequestTypeDebug;
 
 pub type SessionId = u8;
 
@@ -24,7 +25,7 @@ pub type SliceCode = u32;
 pub const MAX_PAYLOAD: usize = 2048;
 
 // A message as it was read. The payload and the DNN are parts of its octets.
-#[derive(Drop)]
+#[derive(Clone, Copy, Debug)]
 pub struct Uplink<'a> {
     pub payload: &'a [u8],
     pub session: SessionId,
@@ -72,9 +73,9 @@ fn slice_code(contents: &[u8]) -> Result<SliceCode, Refusal>
     ensures { λ r. ⌜ Cases r (λ n. slice-in (now (contents .entry)) ≡ Ok n) (λ e. slice-in (now (contents .entry)) ≡ Err (refusal-number e)) ⌝ }
 {
     match contents {
-        [sst] | [sst, _] => Ok(*sst as u32 * 0x1000000 + 0xFFFFFF),
+        [sst] | [sst, _] => Ok(SliceCode::from_be_bytes([*sst, 0xFF, 0xFF, 0xFF])),
         [sst, a, b, c] | [sst, a, b, c, _] | [sst, a, b, c, _, _, _, _] => {
-            Ok(*sst as u32 * 0x1000000 + *a as u32 * 0x10000 + *b as u32 * 0x100 + *c as u32)
+            Ok(SliceCode::from_be_bytes([*sst, *a, *b, *c]))
         }
         _ => Err(Refusal::ElementLength),
     }

@@ -1,26 +1,15 @@
 -- A line is cut into its words at the spaces.
 use mathlib.Core.Path.{_≡_, refl, sym, ap, subst, _∙_}
-use mathlib.Core.Bool.{false}
 use mathlib.Core.List.{List, [], _∷_, _++_, map, append-nil, append-assoc}
 use Prim.Native.Nat.{ℕ, _+_, _-_, _<_, _≤_}
 use native.Mathlib.Omega.{arith}
 use denote.Ref.{RefT}
-use lib.Dec.{eqb}
 use lib.ListN.{length, getD, take, drop}
 use Rattle.std.specs.shelf.Lists.{All, between}
 use Rattle.std.proofs.shelf.Edits.{length-between, between-more}
 use Rattle.std.proofs.shelf.Lists.{drop-more, drop-all, map-push}
 use Rattle.std.proofs.shelf.Tests.{cond-true, cond-false, eq-eqb, ne-eqb}
-use Rattle.scenario.specs.Words.{text, begins-with, word-before, words-after, words, Word, spaced}
-
--- by its length and its first octet
-pub first-is : (xs : List ℕ) (x : ℕ) → 0 < length xs → begins-with x xs ≡ eqb (getD xs 0 0) x
-first-is [] x h = absurd (omega arith)
-first-is (y ∷ ys) x h = refl
-
-pub none-first : (xs : List ℕ) (x : ℕ) → length xs ≤ 0 → begins-with x xs ≡ false
-none-first [] x h = refl
-none-first (y ∷ ys) x h = absurd (omega arith)
+use Rattle.scenario.specs.Words.{text, word-before, words-after, words, Word, spaced}
 
 kept : (w : List ℕ) (ws : List (List ℕ)) → 0 < length w → word-before w ws ≡ w ∷ ws
 kept [] ws h = absurd (omega arith)

@@ -19,7 +19,7 @@ use Rattle.std.specs.Written.{decimal}
 use Rattle.std.specs.shelf.Text.{allDigits}
 use Rattle.std.proofs.shelf.Decimals.{ascii-from-digits, decimal-some, digits-decimal, value-decimal}
 use Rattle.std.proofs.shelf.Numerals.{Numerals, numerals-by-fold, parse-plain}
-use Rattle.std.proofs.shelf.Tests.{and-from, cases-bool, cond-true, eqb-true, eqb-false, lt-ltb}
+use Rattle.std.proofs.shelf.Tests.{and-from, and-parts, cases-bool, cond-true, eqb-true, lt-ltb}
 use Rattle.std.proofs.shelf.Text.{utf8-from-ascii}
 use Rattle.std.proofs.shelf.Ways.{tells}
 use Rattle.scenario.specs.Number.{number-after, number-in}
@@ -41,11 +41,11 @@ number-law v n h e = v ∙ ap number-in e ∙ number-back n h
 
 pub no-sign : (xs : List ℕ) → begins-with 0x2B xs ≡ true → number-in xs ≡ None
 no-sign [] e = refl
-no-sign (c ∷ cs) e = ap (λ d. number-in (d ∷ cs)) (eqb-true c 0x2B e)
+no-sign (c ∷ cs) e = ap (λ d. number-in (d ∷ cs)) (eqb-true c 0x2B (and-parts _ _ e .1))
 
 pub plain : (xs : List ℕ) → begins-with 0x2B xs ≡ false → getD xs 0 0 ≡ 0x2B → ⊥
 plain [] e f = absurd (omega arith)
-plain (c ∷ cs) e f = eqb-false c 0x2B e f
+plain (c ∷ cs) e f = absurd (grind (arith, tells))
 
 -- digits are text
 pub no-text : (xs : List ℕ) → (Utf8 xs → ⊥) → number-in xs ≡ None

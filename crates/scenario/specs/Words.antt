@@ -1,11 +1,11 @@
 -- The words of a line.
 use mathlib.Core.Path.{_≡_}
-use mathlib.Core.Bool.{Bool, false, cond}
+use mathlib.Core.Bool.{Bool, cond, _&&_}
 use mathlib.Core.List.{List, [], _∷_, _++_}
 use Prim.Native.Nat.{ℕ, _<_}
 use denote.Ref.{RefT}
-use lib.Dec.{eqb}
-use lib.ListN.{length}
+use lib.Dec.{eqb, ltb}
+use lib.ListN.{length, getD}
 use Rattle.std.specs.shelf.Lists.{All}
 
 -- what a slice of octets holds
@@ -13,8 +13,7 @@ abbrev pub text : RefT (List ℕ) → List ℕ
 text r = r .now
 
 abbrev pub begins-with : ℕ → List ℕ → Bool
-begins-with x [] = false
-begins-with x (y ∷ ys) = eqb y x
+begins-with x xs = ltb 0 (length xs) && eqb (getD xs 0 0) x
 
 -- w before ws, unless w is empty
 abbrev pub word-before : List ℕ → List (List ℕ) → List (List ℕ)
