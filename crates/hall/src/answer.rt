@@ -9,6 +9,7 @@ ghost use Rattle.std.specs.Written.{decimal};
 ghost use Rattle.nas.specs.RequestTypes.{request-number};
 ghost use Rattle.nas.specs.Uplinks.{read};
 ghost use Rattle.nas.specs.Views.{decoded};
+ghost use Rattle.scenario.specs.Words.{begins-with};
 ghost use Rattle.hall.specs.Commands.{asked};
 ghost use Rattle.hall.specs.Lines.{message-line, read-line, answer-line, printed};
 use crate::command::Command;
@@ -87,12 +88,18 @@ fn answer_line(heap: Global, number: u64, command: Option<Command>) -> Result<St
     }
 }
 
+fn is_comment(line: &[u8]) -> bool
+    ensures { λ r. ⌜ r ≡ begins-with 0x23 (now (line .entry)) ⌝ }
+{
+    begins_with(line, b'#')
+}
+
 // What the line of this number prints, if it prints anything.
-pub fn answer(heap: Global, number: u64, line: &[u8]) -> Result<Option<String>, AllocError>
+pub(crate) fn answer(heap: Global, number: u64, line: &[u8]) -> Result<Option<String>, AllocError>
     ensures { λ r. ⌜ made r (λ o. mapped string-bytes o ≡ printed number (now (line .entry))) ⌝ }
 {
     let words = split_words(heap, line)?;
-    if begins_with(line, b'#') || words.is_empty() {
+    if is_comment(line) || words.is_empty() {
         return Ok(None);
     }
     let command = parse_command(heap, words.as_slice())?;

@@ -11,7 +11,7 @@ use std::alloc::AllocError;
 use std::alloc::Global;
 
 #[derive(Drop)]
-pub enum Command {
+pub(crate) enum Command {
     /// Reads one uplink message.
     Read(Vec<u8>),
 }
@@ -30,7 +30,7 @@ fn parse_read(heap: Global, words: &[&[u8]]) -> Result<Option<Command>, AllocErr
 }
 
 // The command that the words of a line make, if they make one.
-pub fn parse_command(heap: Global, words: &[&[u8]]) -> Result<Option<Command>, AllocError>
+pub(crate) fn parse_command(heap: Global, words: &[&[u8]]) -> Result<Option<Command>, AllocError>
     ensures { λ r. ⌜ made r (λ o. mapped asked o ≡ command-words (map text (now (words .entry)))) ⌝ }
 {
     let Some((verb, rest)) = words.split_first() else {
