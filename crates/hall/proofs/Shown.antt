@@ -1,5 +1,5 @@
 -- What the pieces of a printed line make together.
-use mathlib.Core.Path.{_≡_, refl, sym, ap, subst, _∙_}
+use mathlib.Core.Path.{_≡_, refl, ap, _∙_}
 use mathlib.Core.List.{List, []}
 use denote.Ref.{RefT}
 use Prim.Native.Nat.{ℕ}

@@ -7,9 +7,7 @@ use native.Mathlib.Omega.{arith}
 use denote.Ref.{RefT}
 use lib.Chars.{codes}
 use lib.ListN.{length, getD, take}
-use Rattle.std.specs.declared.option.Option.{Option}
-use Rattle.std.specs.declared.option.Option.the-variants.{Some, None}
-use Rattle.std.specs.Lexical.{Matches}
+use Rattle.std.specs.declared.option.Option.the-variants.{None}
 use Rattle.std.specs.Options.{mapped}
 use Rattle.std.specs.Orderings.{Decides}
 use Rattle.std.specs.shelf.Text.{sameBytes}
@@ -19,7 +17,7 @@ use Rattle.std.proofs.shelf.Tests.{cond-true, cond-false}
 use Rattle.std.proofs.shelf.Ways.{same-from-decides}
 use Rattle.scenario.specs.Octets.{octets-in}
 use Rattle.scenario.specs.Words.{text}
-use Rattle.hall.specs.Lines.{Command, read, read-words, command-words}
+use Rattle.hall.specs.Lines.{read, read-words, command-words}
 
 -- one word behind `read`, and any other number of them
 pub one-word : (words : List (RefT (List ℕ))) (d : RefT (List ℕ)) → length words ≡ 1 → read-words (map text words) ≡ mapped read (octets-in (getD words 0 d .now))

@@ -1,11 +1,8 @@
 // The line that is printed for a line of the scenario.
 ghost use mathlib.Core.Path.{_≡_};
-ghost use mathlib.Core.List.{_++_};
-ghost use lib.Chars.{codes};
 ghost use Rattle.std.specs.Of.String.{string-bytes};
 ghost use Rattle.std.specs.Options.{mapped};
 ghost use Rattle.std.specs.Vec.{made};
-ghost use Rattle.std.specs.Written.{decimal};
 ghost use Rattle.nas.specs.RequestTypes.{request-number};
 ghost use Rattle.nas.specs.Uplinks.{read};
 ghost use Rattle.nas.specs.Views.{decoded};

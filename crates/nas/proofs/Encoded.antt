@@ -1,26 +1,24 @@
 -- A message that a sender puts together is read as the first element of each kind.
-use mathlib.Core.Path.{_≡_, refl, sym, ap, subst, _∙_}
-use mathlib.Core.List.{List, [], _∷_, _++_, append-assoc, append-nil}
-use mathlib.Core.Logic.{_⊎_, inl, inr, ⊎-elim}
-use mathlib.Core.Bool.{Bool, true, false, cond, _||_, _&&_}
-use Prim.Native.Nat.{ℕ, zero, suc, _+_, _-_, _*_, _/_, _%_, _≤_, _<_}
+use mathlib.Core.Path.{_≡_, refl, sym, ap, _∙_}
+use mathlib.Core.List.{List, [], _∷_, _++_, append-assoc}
+use mathlib.Core.Bool.{Bool, true, false, cond}
+use Prim.Native.Nat.{ℕ, zero, suc, _+_, _-_, _/_, _%_, _≤_, _<_}
 use native.Mathlib.Omega.{arith}
-use lib.Dec.{ltb, eqb, leb}
-use lib.ListN.{length, getD, take, drop}
+use lib.Dec.{ltb}
+use lib.ListN.{length, take, drop}
 use Rattle.std.specs.declared.option.Option.{Option}
 use Rattle.std.specs.declared.option.Option.the-variants.{Some, None}
 use Rattle.std.specs.declared.result.Result.{Result}
-use Rattle.std.specs.declared.result.Result.the-variants.{Ok, Err}
+use Rattle.std.specs.declared.result.Result.the-variants.{Ok}
 use Rattle.std.specs.Joined.{joined}
 use Rattle.std.specs.Options.{mapped}
 use Rattle.std.specs.shelf.Lists.{All}
 use Rattle.std.proofs.shelf.Lists.{take-at, drop-at, drop-drop, length-append, length-take-le}
 use Rattle.std.proofs.shelf.Tests.{ltb-false, cond-true, cond-false, or-left, or-right}
-use Rattle.std.proofs.shelf.Ways.{tells}
-use Rattle.nas.specs.Elements.{octet, pair, session-kind, length-octets, contents-length, Extent, element}
+use Rattle.nas.specs.Elements.{octet, pair, session-kind, length-octets, contents-length, element}
 use Rattle.nas.specs.declared.refusal.Refusal.the-variants.{Overrun}
-use Rattle.nas.specs.Uplinks.{Parts, nothing, refuse, else, first-if, checked-if, front, session-id, old-session-id, s-nssai, dnn-name, request-kind, request-bits, slice-length, slice-code, slice-in, dnn-length, dnn-in, noted, walk, then}
-use Rattle.nas.specs.Messages.{Ie, length-field, encoded, Formed, first-of, number-of, firsts}
+use Rattle.nas.specs.Uplinks.{Parts, refuse, else, first-if, checked-if, front, session-id, old-session-id, s-nssai, dnn-name, request-kind, request-bits, slice-length, slice-code, slice-in, dnn-length, dnn-in, noted, walk, then}
+use Rattle.nas.specs.Messages.{Ie, length-field, encoded, Formed, first-of, session-number, firsts}
 use Rattle.nas.proofs.Passing.{fitting, overrunning, walk-skip}
 
 -- ---- one element: the octets of its length say how long its contents are
@@ -159,8 +157,8 @@ noted-one p e formed slice dnn =
     ap (λ r. then r (λ s. then (checked-if (dnn-name x) (p .dnn) (dnn-in c)) (λ d. Ok (noted-parts s d)))) (checked (s-nssai x) (p .slice) (slice-in c) (λ y. slice-code (y .contents)) e (λ n k. cond-true _ _ _ (slice n k)))
     ∙ ap (λ r. then r (λ d. Ok (noted-parts (with-all p (e ∷ []) .slice) d))) (checked (dnn-name x) (p .dnn) (dnn-in c) (λ y. y .contents) e (λ n k. cond-true _ _ _ (dnn n k)))
     ∙ (λ i. Ok (record {
-      session = added (session-id x) (p .session) (front c) number-of e (λ k. front-one c (formed .session (or-left _ _ k))) i;
-      old = added (old-session-id x) (p .old) (front c) number-of e (λ k. front-one c (formed .session (or-right _ _ k))) i;
+      session = added (session-id x) (p .session) (front c) session-number e (λ k. front-one c (formed .session (or-left _ _ k))) i;
+      old = added (old-session-id x) (p .old) (front c) session-number e (λ k. front-one c (formed .session (or-right _ _ k))) i;
       request = added (request-kind x) (p .request) (Some (request-bits x)) (λ y. request-bits (y .identifier)) e (λ _. refl) i;
       slice = with-all p (e ∷ []) .slice;
       dnn = with-all p (e ∷ []) .dnn;
@@ -184,8 +182,8 @@ walk-all p (e ∷ es) rest formed slice dnn =
     ∙ walk-one e (formed .0) (joined encoded es ++ rest) p (with-all p (e ∷ [])) (noted-one p e (formed .0) (fine-here s-nssai slice-length (p .slice) e es slice) (fine-here dnn-name dnn-length (p .dnn) e es dnn))
     ∙ walk-all (with-all p (e ∷ [])) es rest (formed .1) (fine-next s-nssai slice-length (p .slice) e es slice (λ y. slice-code (y .contents))) (fine-next dnn-name dnn-length (p .dnn) e es dnn (λ y. y .contents))
     ∙ (λ i. walk 0 (record {
-      session = told-next (session-id (e .identifier)) (p .session) number-of e (first-of session-id es) i;
-      old = told-next (old-session-id (e .identifier)) (p .old) number-of e (first-of old-session-id es) i;
+      session = told-next (session-id (e .identifier)) (p .session) session-number e (first-of session-id es) i;
+      old = told-next (old-session-id (e .identifier)) (p .old) session-number e (first-of old-session-id es) i;
       request = told-next (request-kind (e .identifier)) (p .request) (λ y. request-bits (y .identifier)) e (first-of request-kind es) i;
       slice = told-next (s-nssai (e .identifier)) (p .slice) (λ y. slice-code (y .contents)) e (first-of s-nssai es) i;
       dnn = told-next (dnn-name (e .identifier)) (p .dnn) (λ y. y .contents) e (first-of dnn-name es) i;

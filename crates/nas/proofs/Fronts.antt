@@ -1,18 +1,15 @@
 -- A buffer that is written from the front, part by part.
-use mathlib.Core.Path.{_≡_, refl, sym, ap, subst, _∙_}
-use mathlib.Core.Bool.{true, false, _&&_}
-use mathlib.Core.List.{List, [], _∷_, _++_, append-assoc, append-nil}
+use mathlib.Core.Path.{_≡_, refl, sym, ap, _∙_}
+use mathlib.Core.List.{List, [], _∷_, _++_, append-assoc}
 use Prim.Native.Nat.{ℕ, _+_, _/_, _%_, _≤_, _<_}
 use native.Mathlib.Omega.{arith}
-use lib.Dec.{ltb}
 use lib.ListN.{length, take, drop}
 use Rattle.std.specs.declared.result.Result.the-variants.{Ok}
 use Rattle.std.proofs.shelf.Lists.{take-at, drop-at, drop-drop, length-append}
 use Rattle.std.proofs.shelf.Tests.{cond-true, cond-false, and-from, lt-ltb, le-ltb}
 use Rattle.nas.specs.declared.cause.Cause.{Cause}
 use Rattle.nas.specs.Causes.{cause-number, back-off}
-use Rattle.nas.specs.Uplinks.{in-range}
-use Rattle.nas.specs.Returns.{return-header, back-off-element, returned, overwritten, return-length, Returns}
+use Rattle.nas.specs.Returns.{return-header, back-off-element, returned, overwritten, Returns}
 
 -- xs is o with w written over its front, up to the place r
 pub record Front (o w xs : List ℕ) (r : ℕ) : Type 0 where

@@ -41,13 +41,13 @@ abbrev pub first-of : (ℕ → Bool) → List Ie → Option Ie
 first-of kind [] = None
 first-of kind (e ∷ es) = cond (kind (e .identifier)) (Some e) (first-of kind es)
 
-abbrev pub number-of : Ie → ℕ
-number-of e = octet (e .contents) 0
+abbrev pub session-number : Ie → ℕ
+session-number e = octet (e .contents) 0
 
 abbrev pub firsts : List Ie → Parts
 firsts es = record {
-  session = mapped number-of (first-of session-id es);
-  old = mapped number-of (first-of old-session-id es);
+  session = mapped session-number (first-of session-id es);
+  old = mapped session-number (first-of old-session-id es);
   request = mapped (λ e. request-bits (e .identifier)) (first-of request-kind es);
   slice = mapped (λ e. slice-code (e .contents)) (first-of s-nssai es);
   dnn = mapped (λ e. e .contents) (first-of dnn-name es);

@@ -1,6 +1,5 @@
 // The DL NAS TRANSPORT message that returns a payload to its sender.
 ghost use mathlib.Core.Path.{_≡_};
-ghost use mathlib.Core.List.{_++_};
 ghost use Prim.Native.Nat.{_+_, _≤_};
 ghost use lib.ListN.{length};
 ghost use Rattle.nas.specs.Returns.{overwritten, Returns};

@@ -171,6 +171,7 @@ impl<'a> Parts<'a> {
     }
 }
 
+// Reads a whole message. `Reads` is the definition of the answer, with the laws that stand above it.
 pub fn read_uplink(octets: &[u8]) -> Result<Uplink<'_>, Refusal>
     ensures { λ r. ⌜ Reads (now (octets .entry)) (answer r) ⌝ }
 {

@@ -1,7 +1,6 @@
-use mathlib.Core.Path.{_≡_, refl, sym, ap, _∙_}
+use mathlib.Core.Path.{_≡_, sym, ap, _∙_}
 use mathlib.Core.List.{[]}
 use Rattle.std.proofs.shelf.Results.{err-from-errBy}
-use Rattle.nas.specs.Steps.{Stepped}
 use Rattle.nas.specs.Uplinks.{walk}
 use Rattle.nas.specs.Views.{parts}
 use Rattle.nas.proofs.Passing.{walk-stop, walk-refuse, walk-step}
