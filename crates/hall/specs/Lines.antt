@@ -3,7 +3,7 @@ use mathlib.Core.Path.{_≡_}
 use mathlib.Core.Logic.{_⊎_}
 use mathlib.Core.Bool.{Bool, cond, _||_}
 use mathlib.Core.List.{List, [], _∷_, _++_}
-use Prim.Native.Nat.{ℕ, _-_}
+use Prim.Native.Nat.{ℕ, _-_, _<_}
 use lib.Chars.{codes}
 use lib.Dec.{eqb}
 use lib.ListN.{length, getD}
@@ -13,6 +13,7 @@ use Rattle.std.specs.declared.result.Result.{Result}
 use Rattle.std.specs.declared.result.Result.the-variants.{Ok, Err}
 use Rattle.std.specs.Options.{mapped, valueOr}
 use Rattle.std.specs.Written.{decimal}
+use Rattle.std.specs.shelf.Lists.{All}
 use Rattle.std.specs.shelf.Text.{sameBytes}
 use Rattle.nas.specs.Uplinks as uplinks
 use Rattle.nas.specs.Uplinks.{Message}
@@ -70,3 +71,15 @@ silent line = begins-with 0x23 line || eqb (length (words line)) 0
 -- what the line of this number prints, if it prints anything
 abbrev pub printed : ℕ → List ℕ → Option (List ℕ)
 printed number line = cond (silent line) None (Some (answer-line number (command-words (words line))))
+
+-- ---- what holds of every answer o to the line of this number
+
+-- Octets written behind `read` are the octets that are read, whatever they are.
+abbrev pub Octets-read : List ℕ → Option (List ℕ) → Type 0
+Octets-read line o =
+    (xs : List ℕ) → All (λ x. x < 256) xs → line ≡ codes "read " ++ octets-text xs → o ≡ Some (read-line (uplinks.read xs))
+
+-- the answer is the one that the definition gives, and keeps this law
+pub record Answers (number : ℕ) (line : List ℕ) (o : Option (List ℕ)) : Type 0 where
+  pub value : o ≡ printed number line
+  pub octets-read : Octets-read line o

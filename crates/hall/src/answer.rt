@@ -8,7 +8,7 @@ ghost use Rattle.nas.specs.Uplinks.{read};
 ghost use Rattle.nas.specs.Views.{decoded};
 ghost use Rattle.scenario.specs.Words.{begins-with};
 ghost use Rattle.hall.specs.Commands.{asked};
-ghost use Rattle.hall.specs.Lines.{message-line, read-line, answer-line, printed};
+ghost use Rattle.hall.specs.Lines.{message-line, read-line, answer-line, Answers};
 use crate::command::Command;
 use crate::command::parse_command;
 use nas::RequestType;
@@ -93,7 +93,7 @@ fn is_comment(line: &[u8]) -> bool
 
 // What the line of this number prints, if it prints anything.
 pub(crate) fn answer(heap: Global, number: u64, line: &[u8]) -> Result<Option<String>, AllocError>
-    ensures { λ r. ⌜ made r (λ o. mapped string-bytes o ≡ printed number (now (line .entry))) ⌝ }
+    ensures { λ r. ⌜ made r (λ o. Answers number (now (line .entry)) (mapped string-bytes o)) ⌝ }
 {
     let words = split_words(heap, line)?;
     if is_comment(line) || words.is_empty() {
