@@ -1,4 +1,6 @@
 // The numbers and codes that all crates share: refusals, causes, request types, and the numbers of things.
+#![tactic(auto)]
+
 mod cause;
 mod ids;
 mod refusal;

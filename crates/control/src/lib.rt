@@ -1,4 +1,6 @@
 // Control lines: congestion of a DNN, of a slice with a DNN, or of a slice, each with its back-off octet.
+#![tactic(auto)]
+
 mod control_key;
 mod control_line;
 mod control_row;

@@ -1,4 +1,6 @@
 // The directories that tell which SMF serves a slice and DNN.
+#![tactic(auto)]
+
 mod choice;
 mod directory;
 mod limit;

@@ -1,4 +1,6 @@
 // The flat store: contexts in rows that the host hands in.
+#![tactic(auto)]
+
 mod context_row;
 mod flat_store;
 mod pair;

@@ -1,4 +1,6 @@
 // Plays a scenario: one command a line on standard input, one line printed for each.
+#![tactic(auto)]
+
 ghost use Rattle.hall.specs.Lines.{Unended};
 
 mod answer;

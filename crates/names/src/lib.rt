@@ -1,4 +1,6 @@
 // DNN names: when two are the same, and the book that numbers them.
+#![tactic(auto)]
+
 mod book;
 mod name;
 

@@ -1,4 +1,6 @@
 // UL and DL NAS TRANSPORT messages: reads an uplink message, and writes the message that returns a payload.
+#![tactic(auto)]
+
 mod element;
 mod returned;
 mod sample;

@@ -1,4 +1,6 @@
 // Values as a scenario's text has them: octets, slice codes, and what may be absent.
+#![tactic(auto)]
+
 mod absent;
 mod octets;
 mod slice;

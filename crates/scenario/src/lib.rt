@@ -1,4 +1,6 @@
 // The words of a scenario's lines, read: numbers, octets and slice codes.
+#![tactic(auto)]
+
 mod number;
 mod octets;
 mod slice;

@@ -1,4 +1,6 @@
 // Stores of the routing contexts of PDU sessions: what a store means, and two makes of it.
+#![tactic(auto)]
+
 mod context;
 mod laws;
 mod store;

@@ -1,4 +1,6 @@
 // Tables of rows that are found by a key: one way to find every kind of row, and a table over lent rows.
+#![tactic(auto)]
+
 mod finding;
 mod row;
 mod table;

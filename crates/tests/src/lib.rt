@@ -1,4 +1,6 @@
 // Tests of the libraries. They stand apart because a crate that has tests is proved once more with them.
+#![tactic(auto)]
+
 #[cfg(test)]
 mod control;
 #[cfg(test)]
