@@ -1,6 +1,6 @@
 -- The first line for a slice and DNN, and who serves by the lines.
 use Rattle.std.proofs.Common.{◌≡◌, ℕ, zero, suc, ◌<◌, true, false, List, [], ◌∷◌, length, get_or, Decides, sym, refl, ap, ◌∙◌, ⊎_elim, zero-lt-suc, arith}
-use Rattle.std.proofs.lemmas.Bool.{cases_Bool, cases_order, and_parts, and_from, and_left, eqb-true, eq-eqb, ltb-true, both_ways, cond-true, cond_false}
+use Rattle.std.proofs.lemmas.Bool.{cases_Bool, cases_order, and_parts, and_from, and_left, eqb-true, eq-eqb, ltb-true, both_ways, cond-true, cond-false}
 use Rattle.directories.specs.declared.service_line.ServiceLine.{ServiceLine}
 use Rattle.directories.specs.Lines.{numbered, good_line, all_good, line_for, line_serves, lines_serve, takes_first, no_line, NoneFor, First, FirstSmf}
 use Rattle.directories.specs.Meanings.{Lawful, Sole}
@@ -12,7 +12,7 @@ unfolding takes_first
 first_taken [] s n i f = absurd (omega (arith, f.within))
 first_taken (l ∷ lines) s n zero f = cond-true (line_for l s n) _ _ f.here ∙ eq-eqb l.smf l.smf refl
 first_taken (l ∷ lines) s n (suc i) f =
-    cond_false (line_for l s n) _ _ (f.before 0 (zero-lt-suc i))
+    cond-false (line_for l s n) _ _ (f.before 0 (zero-lt-suc i))
     ∙ first_taken lines s n i record { within = omega (arith, f.within); here = f.here; before = λ j h. f.before (suc j) (omega arith) }
 
 -- and what is taken is the first line's SMF
@@ -23,7 +23,7 @@ taken_first (l ∷ lines) s n m e =
     ⊎_elim
     (λ t. (0, record { within = zero-lt-suc (length lines); here = t; before = λ j h. absurd (omega arith) }, eqb-true l.smf m (sym (cond-true (line_for l s n) _ _ t) ∙ e)))
     (λ t.
-    let f = taken_first lines s n m (sym (cond_false (line_for l s n) _ _ t) ∙ e) in
+    let f = taken_first lines s n m (sym (cond-false (line_for l s n) _ _ t) ∙ e) in
     (suc f.0, after l lines s n f.0 t f.1, f.2))
     (cases_Bool (line_for l s n))
   where

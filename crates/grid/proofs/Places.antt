@@ -2,7 +2,7 @@
 use Rattle.std.proofs.Common.{◌≡◌, ℕ, zero, suc, ◌+◌, ◌-◌, ◌<◌, ◌≤◌, Bool, true, false, cond, not, ◌&&◌, eqb, ltb, ◌⊎◌, List, length, get_or, set, is_some, Some, None, Option, sym, refl, ap, ◌∙◌, inl, inr, ⊎_elim, arith}
 use Rattle.std.specs.Option.{option_map}
 use Rattle.std.proofs.lemmas.List.{get_or-set_same, get_or-set_other}
-use Rattle.std.proofs.lemmas.Bool.{cases_eq, cases_Bool, and_parts, and_from, and_cases, and_right, eqb-true, eqb-false, eq-eqb, ne_eqb, lt-ltb, ltb-true, cond-true, cond_false, not_from_false, true≢false, false≢true}
+use Rattle.std.proofs.lemmas.Bool.{cases_eq, cases_Bool, and_parts, and_from, and_cases, and_right, eqb-true, eqb-false, eq-eqb, ne_eqb, lt-ltb, ltb-true, cond-true, cond-false, not_from_false, true≢false, false≢true}
 use Rattle.stores.specs.declared.context.Context.{Context}
 use Rattle.stores.specs.Contexts.{lookup, Once, count_to}
 use Rattle.grid.specs.declared.place.Place.{Place}
@@ -61,7 +61,7 @@ row_in x (suc n) cs j a b = go (cases_eq j (suc n)) (row_in x n (joined (context
 
 -- no session is out of bounds
 pub out_none : (x : UeRow) (j : ℕ) → (ltb 0 j && ltb j 16) ≡ false → context_at x j ≡ None
-out_none x j e = ap (option_map (context_of x.ue j)) (cond_false (ltb 0 j && ltb j 16) (get_or x.places (j - 1) None) None e)
+out_none x j e = ap (option_map (context_of x.ue j)) (cond-false (ltb 0 j && ltb j 16) (get_or x.places (j - 1) None) None e)
 
 or_none : (o : Option Context) → cond (is_some o) o None ≡ o
 or_none None = refl
@@ -152,7 +152,7 @@ place_written ps k o j n a b = go (cases_eq k j)
         (cond-true (ltb 0 k && ltb k 16) (get_or (set ps (k - 1) o) (k - 1) None) None (and_from _ _ (lt-ltb 0 k a) (lt-ltb k 16 b))
         ∙ get_or-set_same ps (k - 1) o None (omega (arith, n, a, b))
         ∙ sym (cond-true (eqb k k) o (place_at ps k) (eq-eqb k k refl)))
-    go (inr z) = other (cases_Bool (ltb 0 j && ltb j 16)) ∙ sym (cond_false (eqb k j) o (place_at ps j) (ne_eqb k j z))
+    go (inr z) = other (cases_Bool (ltb 0 j && ltb j 16)) ∙ sym (cond-false (eqb k j) o (place_at ps j) (ne_eqb k j z))
       where
         other : ((ltb 0 j && ltb j 16) ≡ true) ⊎ ((ltb 0 j && ltb j 16) ≡ false) → place_at (set ps (k - 1) o) j ≡ place_at ps j
         other (inl t) =
@@ -160,8 +160,8 @@ place_written ps k o j n a b = go (cases_eq k j)
             let c = ltb-true 0 j h.0 in
             ap (λ (p : Option Place). cond (ltb 0 j && ltb j 16) p None) (get_or-set_other ps (k - 1) (j - 1) o None (λ y. z (omega (arith, y, a, c))))
         other (inr f) =
-            cond_false (ltb 0 j && ltb j 16) (get_or (set ps (k - 1) o) (j - 1) None) None f
-            ∙ sym (cond_false (ltb 0 j && ltb j 16) (get_or ps (j - 1) None) None f)
+            cond-false (ltb 0 j && ltb j 16) (get_or (set ps (k - 1) o) (j - 1) None) None f
+            ∙ sym (cond-false (ltb 0 j && ltb j 16) (get_or ps (j - 1) None) None f)
 
 pub written_at : (x : UeRow) (u k : ℕ) (o : Option Place) (j : ℕ) → length x.places ≡ 15 → 0 < k → k < 16 → context_at (written x u k o) j ≡ cond (eqb k j) (option_map (context_of u k) o) (stands x u j)
 written_at x u k o j n a b = ap (option_map (context_of u j)) (place_written x.places k o j n a b) ∙ go (cases_Bool (eqb k j))
@@ -185,7 +185,7 @@ written_size x u k o n a b =
     same j h =
         ap (λ (t : Bool). not (eqb j 0) && t)
         (some_written j
-        ∙ ap (λ (p : Option Place). is_some p) (cond_false (eqb k j) o (place_at x.places j) (ne_eqb k j (λ z. h (sym z))))
+        ∙ ap (λ (p : Option Place). is_some p) (cond-false (eqb k j) o (place_at x.places j) (ne_eqb k j (λ z. h (sym z))))
         ∙ sym (some_mapped (context_of x.ue j) (place_at x.places j)))
 
     old : other_in x 0 k ≡ is_some (stands x u k)

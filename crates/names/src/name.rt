@@ -56,7 +56,7 @@ impl Named for &[u8] {
 
 // The number of the first name that is the same, counted from 1, or 0.
 pub fn number_in<N: Named>(names: &[N], octets: &[u8]) -> usize
-    ensures { Numbers (names_of spelled names.now) octets.now result }
+    ensures { Numbers (names_of N.spelled names.now) octets.now result }
 {
     for (i, name) in names.iter().enumerate() {
         if same_name(name.octets(), octets) {

@@ -44,7 +44,7 @@ pub fn parse_octets(heap: Global, word: &[u8]) -> Result<Option<Vec<u8>>, AllocE
     ensures reads_back { IfOk result (λ o. (xs : List ℕ) → All (λ x. x < 256) xs → word.now ≡ octets_text xs → option_map vec_items o ≡ Some xs) }
 {
     let mut octets = Vec::new(heap);
-    if word == b"-" {
+    if word == b"-".as_slice() {
         return Ok(Some(octets));
     }
     if word.is_empty() || word.len() % 2 != 0 {

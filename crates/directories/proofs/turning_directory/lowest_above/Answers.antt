@@ -5,7 +5,7 @@ use Rattle.directories.specs.Sets.{sets_serve}
 use Rattle.directories.specs.Turns.{Lowest}
 use Rattle.directories.proofs.Lowests.{lowest_none, lowest_passed, lowest_met}
 use Rattle.directories.proofs.turning_directory.lowest_above.Goals as goal
-use Rattle.directories.proofs.turning_directory.lowest_above.Goals.{then-is-for, else-is-for}
+use Rattle.directories.proofs.turning_directory.lowest_above.Goals.{then-is_for, else-is_for}
 
 pub loop-set-init : goal.loop-set-init
 loop-set-init c = lowest_none c.args.slice c.args.dnn c.args.bound
@@ -17,9 +17,9 @@ loop-set-preserved c =
     let l = c.loop-set-test.true in
     let from = c.loop-set.invariant in
     let P : ℕ → Type 0 = λ r. Lowest (sets_serve (take (i + 1) sets) c.args.slice c.args.dnn) c.args.bound r in
-    elim c.if-is-for.branch [
-      | then-is-for w ↦ subst P (sym (w.lowest_is ∙ w.lower-lowest.ensures)) (lowest_met sets c.args.slice c.args.dnn i l _ _ (sym c.is-for.ensures ∙ w.if-is-for.true) from)
-      | else-is-for w ↦ subst P (sym w.lowest_is) (lowest_passed sets c.args.slice c.args.dnn i l _ _ (sym c.is-for.ensures ∙ w.if-is-for.false) from)
+    elim c.if-is_for.branch [
+      | then-is_for w ↦ subst P (sym (w.lowest-is ∙ w.lower-lowest.ensures)) (lowest_met sets c.args.slice c.args.dnn i l _ _ (sym c.is_for.ensures ∙ w.if-is_for.true) from)
+      | else-is_for w ↦ subst P (sym w.lowest-is) (lowest_passed sets c.args.slice c.args.dnn i l _ _ (sym c.is_for.ensures ∙ w.if-is_for.false) from)
     ]
 
 pub returns : goal.returns

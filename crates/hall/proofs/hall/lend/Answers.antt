@@ -5,10 +5,10 @@ use Rattle.hall.proofs.hall.lend.Goals as goal
 
 pub loop-name-preserved : goal.loop-name-preserved
 loop-name-preserved c =
-    lent_more c.args.names.now c.loop-name.name-index c.name-item.result c.loop-name-test.true _ c.as-slice.result
+    lent_more c.args.names.now c.loop-name.name-index c.name-item.result c.loop-name-test.true _ c.as_slice.result
     c.loop-name.invariant
-    (c.as-slice.ensures.value ∙ ap vec_items c.name-item.is)
-    c.in-ok-push.ensures.items
+    (c.as_slice.ensures.value ∙ ap vec_items c.name-item.is)
+    c.in_ok-push.ensures.items
 
 pub returns : goal.returns
 returns c =

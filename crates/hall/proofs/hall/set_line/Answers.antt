@@ -7,6 +7,6 @@ returns c =
     let line = c.args.line in
     let key = key_in line.kind line.slice line.dnn in
     record {
-      outcome = set_said key _ _ _ c.set.result _ c.set.ensures c.refused-or-accepted.ensures;
-      rows = set_done key _ _ _ c.set.result _ c.set.ensures c.refused-or-accepted.ensures;
+      outcome = set_said key _ _ _ c.set.result _ c.set.ensures c.refused_or_accepted.ensures;
+      rows = set_done key _ _ _ c.set.result _ c.set.ensures c.refused_or_accepted.ensures;
     }

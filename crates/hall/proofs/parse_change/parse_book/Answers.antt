@@ -4,11 +4,11 @@ use Rattle.hall.specs.Changes.{book}
 use Rattle.hall.proofs.Named.{book_none, book_some}
 use Rattle.hall.proofs.parse_change.parse_book.Goals as goal
 
-pub returns-then-is-empty : goal.returns-then-is-empty
-returns-then-is-empty c =
-    sym (book_none c.args.words.now (sym c.is-empty.ensures ∙ c.if-is-empty.true))
+pub returns-then-is_empty : goal.returns-then-is_empty
+returns-then-is_empty c =
+    sym (book_none c.args.words.now (sym c.is_empty.ensures ∙ c.if-is_empty.true))
 
 pub returns-in-Some : goal.returns-in-Some
 returns-in-Some c =
-    ap (option_map book) (ap (option_map (λ v. map vec_items (vec_items v))) (sym c.in-Some.is) ∙ c.in-ok-names.ensures)
-    ∙ sym (book_some c.args.words.now (sym c.is-empty.ensures ∙ c.if-is-empty.false))
+    ap (option_map book) (ap (option_map (λ v. map vec_items (vec_items v))) (sym c.in-Some.is) ∙ c.in_ok-names.ensures)
+    ∙ sym (book_some c.args.words.now (sym c.is_empty.ensures ∙ c.if-is_empty.false))

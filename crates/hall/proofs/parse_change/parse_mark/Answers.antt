@@ -7,4 +7,4 @@ pub returns-then-words-ne1 : goal.returns-then-words-ne1
 returns-then-words-ne1 c = sym (of_other c.args.words.now 1 _ c.if-words-ne1.true)
 
 pub returns : goal.returns
-returns c = c.mark-change.ensures ∙ sym (of_one_word c.args.words.now _ mark_of c.if-words-ne1.false)
+returns c = c.mark_change.ensures ∙ sym (of_one_word c.args.words.now _ mark_of c.if-words-ne1.false)

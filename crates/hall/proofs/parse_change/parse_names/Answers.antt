@@ -7,13 +7,13 @@ use Rattle.hall.proofs.parse_change.parse_names.Goals as goal
 pub loop-word-preserved : goal.loop-word-preserved
 loop-word-preserved c =
     let ws = c.args.words.now in
-    let is = sym c.in-ok-name.ensures.value ∙ ap (option_map vec_items) c.in-Some.is in
-    let more = ap (map vec_items) c.in-ok-push.ensures.items ∙ map_push vec_items (vec_items c.loop-word.names) c.in-Some.name in
+    let is = sym c.in_ok-name.ensures.value ∙ ap (option_map vec_items) c.in-Some.is in
+    let more = ap (map vec_items) c.in_ok-push.ensures.items ∙ map_push vec_items (vec_items c.loop-word.names) c.in-Some.name in
     subst (λ l. ReadSoFar ws l (c.loop-word.word-index + 1)) (sym more) (name_read ws _ _ _ c.loop-word-test.true c.loop-word.invariant _ is)
 
-pub returns-in-default : goal.returns-in-default
-returns-in-default c =
-    let is = sym c.in-ok-name.ensures.value ∙ ap (option_map vec_items) c.in-default.is in
+pub returns-in_default : goal.returns-in_default
+returns-in_default c =
+    let is = sym c.in_ok-name.ensures.value ∙ ap (option_map vec_items) c.in_default.is in
     sym (no_name c.args.words.now _ _ _ c.loop-word-test.true c.loop-word.invariant is)
 
 pub returns : goal.returns

@@ -7,4 +7,4 @@ pub returns-then-words-ne3 : goal.returns-then-words-ne3
 returns-then-words-ne3 c = sym (of_other c.args.words.now 3 _ c.if-words-ne3.true)
 
 pub returns : goal.returns
-returns c = c.serve-change.ensures ∙ sym (of_three_words c.args.words.now _ serve_of c.if-words-ne3.false)
+returns c = c.serve_change.ensures ∙ sym (of_three_words c.args.words.now _ serve_of c.if-words-ne3.false)

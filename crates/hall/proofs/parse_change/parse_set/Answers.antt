@@ -7,4 +7,4 @@ pub returns-then-words-ne4 : goal.returns-then-words-ne4
 returns-then-words-ne4 c = sym (of_other c.args.words.now 4 _ c.if-words-ne4.true)
 
 pub returns : goal.returns
-returns c = c.set-change.ensures ∙ sym (of_four_words c.args.words.now _ set_of c.if-words-ne4.false)
+returns c = c.set_change.ensures ∙ sym (of_four_words c.args.words.now _ set_of c.if-words-ne4.false)

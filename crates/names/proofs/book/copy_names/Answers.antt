@@ -9,10 +9,10 @@ use Rattle.names.proofs.book.copy_names.Goals as goal
 pub loop-name-preserved : goal.loop-name-preserved
 loop-name-preserved c =
     let copies = vec_items c.loop-name.copies in
-    let copy : Name = record { octets = c.in-ok-octets.octets } in
+    let copy : Name = record { octets = c.in_ok-octets.octets } in
     copied_more c.args.names.now c.loop-name.name-index _ c.loop-name-test.true copies _ copy c.loop-name.invariant
-    (c.in-ok-octets.ensures.items-if-clones-equal (λ x y e. e))
-    (pushed {was = copies} (copy ∷ []) refl c.in-ok-push.was c.push.ensures.items)
+    (c.in_ok-octets.ensures.items_if_clones_equal (λ x y e. e))
+    (pushed {was = copies} (copy ∷ []) refl c.in_ok-push.was c.push.ensures.items)
 
 pub returns : goal.returns
 returns c =

@@ -3,15 +3,15 @@ use Rattle.std.proofs.lemmas.Bool.{false≢true, eqb-true, eqb-false}
 use Rattle.names.specs.OwnNames.{lent_names}
 use Rattle.names.proofs.Naming.{Following, good_from_following, following_from_good, follows_from_lent, lent_from_follows, names_length}
 use Rattle.names.proofs.book.good_names.Goals as goal
-use Rattle.names.proofs.book.good_names.Goals.{then-is-empty-via-then-is-empty, then-is-empty-via-else-is-empty+then-names-gt64}
+use Rattle.names.proofs.book.good_names.Goals.{then-is_empty-via-then-is_empty, then-is_empty-via-else-is_empty+then-names-gt64}
 
-pub returns-then-is-empty : goal.returns-then-is-empty
-returns-then-is-empty c =
+pub returns-then-is_empty : goal.returns-then-is_empty
+returns-then-is_empty c =
     let n = names_length (λ r. r.now) c.args.names.now in (
       λ e. absurd (false≢true e),
-      λ good. absurd (elim c.then-is-empty.branch [
-        | then-is-empty-via-then-is-empty w ↦ omega (arith, n, good.some, eqb-true _ 0 (sym c.is-empty.ensures ∙ w.if-is-empty.true))
-        | then-is-empty-via-else-is-empty+then-names-gt64 w ↦ omega (arith, n, good.few, w.if-names-gt64.true)
+      λ good. absurd (elim c.then-is_empty.branch [
+        | then-is_empty-via-then-is_empty w ↦ omega (arith, n, good.some, eqb-true _ 0 (sym c.is_empty.ensures ∙ w.if-is_empty.true))
+        | then-is_empty-via-else-is_empty+then-names-gt64 w ↦ omega (arith, n, good.few, w.if-names-gt64.true)
       ]),
     )
 
@@ -30,6 +30,6 @@ pub returns : goal.returns
 returns c =
     let n = names_length (λ r. r.now) c.args.names.now in
     let all : c.loop-i.i ≡ length (lent_names c.args.names.now) = omega (arith, n, c.loop-i-test.false, c.loop-i.auto.i-end) in (
-      λ _. good_from_following _ (omega (arith, n, eqb-false _ 0 (sym c.is-empty.ensures ∙ c.if-is-empty.false))) (omega (arith, n, c.if-names-gt64.false)) (subst (Following _) all c.loop-i.invariant),
+      λ _. good_from_following _ (omega (arith, n, eqb-false _ 0 (sym c.is_empty.ensures ∙ c.if-is_empty.false))) (omega (arith, n, c.if-names-gt64.false)) (subst (Following _) all c.loop-i.invariant),
       λ _. refl,
     )

@@ -11,5 +11,5 @@ returns c =
     let k : at + length ys - at ≡ length ys = omega arith in
     record {
       end = refl;
-      after = (λ i. put_mid at (k i) xs (c.copy-from-slice.ensures.after i)) ∙ ap (λ z. take at xs ++ (ys ++ z)) (drop-drop (length ys) at xs);
+      after = (λ i. put_mid at (k i) xs (c.copy_from_slice.ensures.after i)) ∙ ap (λ z. take at xs ++ (ys ++ z)) (drop-drop (length ys) at xs);
     }

@@ -13,7 +13,7 @@ loop-i-preserved c =
       | then-octet-eq-SPACE w ↦
           elim w.if-start-i.branch [
             | then-start-i+in-ok-push w' ↦
-                moved line _ (ap (λ v. map text (vec_items v)) (w.found-is ∙ w'.found-is) ∙ one_found (vec_items c.loop-i.found) _ w'.in-ok-push.ensures.items) w.start-is
+                moved line _ (ap (λ v. map text (vec_items v)) (w.found-is ∙ w'.found-is) ∙ one_found (vec_items c.loop-i.found) _ w'.in_ok-push.ensures.items) w.start-is
                 (cut line _ _ _ inv lt w.if-octet-eq-SPACE.true w'.if-start-i.true)
             | else-start-i w' ↦
                 moved line _ (ap (λ v. map text (vec_items v)) (w.found-is ∙ w'.found-is)) w.start-is
@@ -30,9 +30,9 @@ returns c =
     let v : map text (vec_items c.if-start-line.found) ≡ words line =
     elim c.if-start-line.branch [
       | then-start-line+in-ok-push-2 w ↦
-          ap (λ v. map text (vec_items v)) w.found-is ∙ one_found (vec_items c.loop-i.found) _ w.in-ok-push-2.ensures.items
+          ap (λ v. map text (vec_items v)) w.found-is ∙ one_found (vec_items c.loop-i.found) _ w.in_ok-push-2.ensures.items
           ∙ cut_last line _ _ _ inv (omega arith) w.if-start-line.true
       | else-start-line w ↦
           ap (λ v. map text (vec_items v)) w.found-is ∙ pass_last line _ _ _ inv (omega arith) w.if-start-line.false
     ] in
-    record { value = v; reads-back = words_law v }
+    record { value = v; reads_back = words_law v }

@@ -8,7 +8,7 @@ pub returns-in-Some : goal.returns-in-Some
 returns-in-Some c =
     let g = c.in-Some.ensures in
     let x = c.in-Some.row.now in
-    c.back_off_octet.ensures
+    c.back_off.ensures
     ∙ ap (λ (y : ControlRow). octet_of y.held) (g.2 x)
     ∙ sym (first_back_off c.args.self.now.table.rows.now c.args.key g.0 x g.1)
 

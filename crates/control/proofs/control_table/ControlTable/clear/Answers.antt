@@ -5,16 +5,16 @@ use Rattle.control.specs.Controls.{Clearing}
 use Rattle.control.proofs.Keyed.{clear_told}
 use Rattle.control.proofs.control_table.ControlTable.clear.Goals as goal
 
-pub invariant-of-self : goal.invariant-of-self
-invariant-of-self c =
+pub invariant_of-self : goal.invariant_of-self
+invariant_of-self c =
     let s = c.args.self.now in
     let ys = c.remove.new.self.rows.now in
-    (sole is_free key_of ys (c.remove.ensures.apart (apart is_free key_of s.table.rows.now s.once)), tt)
+    record { once = sole is_free key_of ys (c.remove.ensures.apart (apart is_free key_of s.table.rows.now s.once)) }
 
 pub returns-in-Some : goal.returns-in-Some
 returns-in-Some c =
     let s = c.args.self.now in
     let xs = s.table.rows.now in
     let ys = c.remove.new.self.rows.now in
-    let t = clear_told c.in-Some.key xs ys (apart is_free key_of xs s.once) c.done-or.result c.remove.result c.done-or.ensures c.remove.ensures.removes in
-    subst (λ o. Clearing o xs ys c.done-or.result) (sym c.in-Some.is ∙ c.from-numbers.ensures) t
+    let t = clear_told c.in-Some.key xs ys (apart is_free key_of xs s.once) c.done_or.result c.remove.result c.done_or.ensures c.remove.ensures.removes in
+    subst (λ o. Clearing o xs ys c.done_or.result) (sym c.in-Some.is ∙ c.from_numbers.ensures) t

@@ -11,7 +11,7 @@ returns-in-Some c =
     let s = c.args.slice in
     let n = c.args.dnn in
     let i = c.in-Some.i in
-    let f : First lines s n i = subst (λ (xs : List ServiceLine). First xs s n i) c.as-slice.ensures.value c.in-Some.ensures in
+    let f : First lines s n i = subst (λ (xs : List ServiceLine). First xs s n i) c.as_slice.ensures.value c.in-Some.ensures in
     let e : (get_or lines i no_line).smf ≡ c.index.result.now.smf = sym (ap (λ (l : ServiceLine). l.smf) (get_or_read lines i c.index.result.now f.within c.index.ensures no_line)) in
     record {
       choice = (refl, ap (lines_serve lines s n) (sym e) ∙ first_serves lines s n i f, ap (takes_first lines s n) (sym e) ∙ first_taken lines s n i f);
@@ -29,7 +29,7 @@ returns-in-None c =
     let lines = vec_items c.args.self.now.lines in
     let s = c.args.slice in
     let n = c.args.dnn in
-    let f : NoneFor lines s n = subst (λ (xs : List ServiceLine). NoneFor xs s n) c.as-slice.ensures.value c.in-None.ensures in
+    let f : NoneFor lines s n = subst (λ (xs : List ServiceLine). NoneFor xs s n) c.as_slice.ensures.value c.in-None.ensures in
     record {
       choice = (refl, none_serves lines s n f);
       opening = refl;

@@ -16,7 +16,7 @@ module _ (c : After-with) where
 
   pair : PairAt sets c.args.line.slice c.args.line.smf c.in-Some.i
   pair =
-      subst (λ (xs : List ServedSet). PairAt xs c.args.line.slice c.args.line.smf c.in-Some.i) c.as-slice.ensures.value c.in-Some.ensures
+      subst (λ (xs : List ServedSet). PairAt xs c.args.line.slice c.args.line.smf c.in-Some.i) c.as_slice.ensures.value c.in-Some.ensures
 
   from : c.index.result.now ≡ get_or sets c.in-Some.i no_set
   from = get_or_read sets c.in-Some.i c.index.result.now pair.0 c.index.ensures no_set
@@ -34,18 +34,16 @@ module _ (c : After-with) where
         from_slice = slice;
         from_smf = smf;
         sized = eqb-true _ 64 (and_parts (ltb 0 x.smf) _ (all_at good_set sets c.in-Some.i no_set pair.0 c.args.self.now.good)).1;
-        good = sym c.is-good.ensures ∙ c.if-not-is-good.false;
+        good = sym c.is_good.ensures ∙ c.if-not-is_good.false;
       }
 
-pub invariant-of-self : goal.invariant-of-self
-invariant-of-self c =
-    let t = (goal.at.invariant-of-self c).After-with in (
-      search rules,
-      (
-        apart_held (sets t) c.args.line c.in-Some.i c.with.result (pair t) (grown t) c.args.self.now.apart,
-        (all_set good_set (sets t) c.in-Some.i c.with.result c.args.self.now.good (with_good _ _ _ (grown t)), tt),
-      ),
-    )
+pub invariant_of-self : goal.invariant_of-self
+invariant_of-self c =
+    let t = (goal.at.invariant_of-self c).After-with in record {
+      few = search rules;
+      apart = apart_held (sets t) c.args.line c.in-Some.i c.with.result (pair t) (grown t) c.args.self.now.apart;
+      good = all_set good_set (sets t) c.in-Some.i c.with.result c.args.self.now.good (with_good _ _ _ (grown t));
+    }
 
 pub returns-in-Some : goal.returns-in-Some
 returns-in-Some c =
@@ -59,7 +57,7 @@ module _ (c : After-with-in-None) where
 
   none : NoPair known c.args.line.slice c.args.line.smf
   none =
-      subst (λ (xs : List ServedSet). NoPair xs c.args.line.slice c.args.line.smf) c.as-slice.ensures.value c.in-None.ensures
+      subst (λ (xs : List ServedSet). NoPair xs c.args.line.slice c.args.line.smf) c.as_slice.ensures.value c.in-None.ensures
 
   begun : With c.empty.result c.args.line c.with-in-None.result
   begun =
@@ -70,30 +68,32 @@ module _ (c : After-with-in-None) where
         from_slice = c.empty.ensures.slice;
         from_smf = c.empty.ensures.smf;
         sized = ap length c.empty.ensures.numbers;
-        good = sym c.is-good.ensures ∙ c.if-not-is-good.false;
+        good = sym c.is_good.ensures ∙ c.if-not-is_good.false;
       }
 
-pub invariant-of-self-in-None : goal.invariant-of-self-in-None
-invariant-of-self-in-None c =
-    let t = (goal.at.invariant-of-self-in-None c).After-with-in-None in
+pub invariant_of-self-in-None : goal.invariant_of-self-in-None
+invariant_of-self-in-None c =
+    let t = (goal.at.invariant_of-self-in-None c).After-with-in-None in
     let d = c.args.self.now in
-    let v = c.push-within-limit.new.items in
+    let v = c.push_within_limit.new.items in
     ⊎_elim
-    (λ e. (omega (arith, ap length e, v.ok.0, d.sets.ok.0, d.few), (subst Apart (sym e) d.apart, (ap good_sets e ∙ d.good, tt))))
-    (λ e. (
-      omega (arith, ap length e.last, length_push (known t) c.with-in-None.result, e.room, v.ok.0),
-      (
-        subst Apart (sym e.last) (apart_new (known t) c.args.line c.empty.result c.with-in-None.result (none t) (begun t) d.apart),
-        (ap good_sets e.last ∙ all_push good_set (known t) c.with-in-None.result d.good (with_good _ _ _ (begun t)), tt),
-      ),
-    ))
-    (pushed c.push-within-limit.result (known t) c.with-in-None.result (vec_items v) c.push-within-limit.ensures)
+    (λ e. record {
+      few = omega (arith, ap length e, v.ok.0, d.sets.ok.0, d.few);
+      apart = subst Apart (sym e) d.apart;
+      good = ap good_sets e ∙ d.good;
+    })
+    (λ e. record {
+      few = omega (arith, ap length e.last, length_push (known t) c.with-in-None.result, e.room, v.ok.0);
+      apart = subst Apart (sym e.last) (apart_new (known t) c.args.line c.empty.result c.with-in-None.result (none t) (begun t) d.apart);
+      good = ap good_sets e.last ∙ all_push good_set (known t) c.with-in-None.result d.good (with_good _ _ _ (begun t));
+    })
+    (pushed c.push_within_limit.result (known t) c.with-in-None.result (vec_items v) c.push_within_limit.ensures)
 
 pub returns-in-None : goal.returns-in-None
 returns-in-None c =
     let t = (goal.at.returns-in-None c).After-with-in-None in
     record {
-      sets = joined_by c.push-within-limit.result (known t) c.args.line c.empty.result c.with-in-None.result (vec_items c.push-within-limit.new.items) (none t) (begun t) c.empty.ensures.numbers c.push-within-limit.ensures;
+      sets = joined_by c.push_within_limit.result (known t) c.args.line c.empty.result c.with-in-None.result (vec_items c.push_within_limit.new.items) (none t) (begun t) c.empty.ensures.numbers c.push_within_limit.ensures;
       opening = refl;
       last = refl;
     }

@@ -26,8 +26,8 @@ returns c =
     let sets = vec_items d.sets in
     let s = c.args.slice in
     let n = c.args.dnn in
-    let next = c.next-in-turn-next.result in
-    let w : Next (sets_serve sets s n) d.last next = subst (λ (xs : List ServedSet). Next (sets_serve xs s n) d.last next) c.as-slice.ensures.value c.next-in-turn-next.ensures in
+    let next = c.next_in_turn-next.result in
+    let w : Next (sets_serve sets s n) d.last next = subst (λ (xs : List ServedSet). Next (sets_serve xs s n) d.last next) c.as_slice.ensures.value c.next_in_turn-next.ensures in
     record {
       choice = next_chosen sets d.good s n d.last next w _ c.take.result c.if-not-self.false c.take.ensures.choice;
       opening = c.take.ensures.opening;

@@ -5,6 +5,6 @@ pub returns : goal.returns
 returns c =
     let s = c.args.self.now in
     record {
-      value = empty_test s.table.rows.now c.has-only-free-rows.result c.has-only-free-rows.ensures;
+      value = empty_test s.table.rows.now c.has_only_free_rows.result c.has_only_free_rows.ensures;
       laws = store_laws s.table.rows.now s.once s.enough;
     }

@@ -7,6 +7,6 @@ pub returns : goal.returns
 returns c =
     let s = c.args.self.now in
     let t =
-    lowest_told s.table.rows.now s.once c.args.ue c.args.session c.lowest-emergency-row.result
-    (c.lowest-emergency-row.ensures ∙ ap (lowest_row c.args.ue c.args.session) c.rows.ensures) in
+    lowest_told s.table.rows.now s.once c.args.ue c.args.session c.lowest_emergency_row.result
+    (c.lowest_emergency_row.ensures ∙ ap (lowest_row c.args.ue c.args.session) c.rows.ensures) in
     record { value = t.value; lowest = t.lowest }

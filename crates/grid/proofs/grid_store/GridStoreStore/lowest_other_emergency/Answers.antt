@@ -9,10 +9,10 @@ use Rattle.grid.proofs.grid_store.GridStoreStore.lowest_other_emergency.Goals as
 pub returns-in-Some : goal.returns-in-Some
 returns-in-Some c =
     let s = c.args.self.now in
-    let r = c.lowest-other-emergency.result in
+    let r = c.lowest_other_emergency.result in
     let g = c.in-Some.ensures in
     let x = c.in-Some.row.now in
-    let l = subst (λ (y : UeRow). Lowest (emergency_in y c.args.session) r) (g.2 x) c.lowest-other-emergency.ensures in
+    let l = subst (λ (y : UeRow). Lowest (emergency_in y c.args.session) r) (g.2 x) c.lowest_other_emergency.ensures in
     let h = lowest_found s.rows c.args.ue c.args.session s.apart g.0 x g.1 r l in
     record { value = lowest_is (emergency_at (contexts_in s.rows) c.args.ue c.args.session) r h; lowest = h }
 

@@ -8,11 +8,11 @@ use Rattle.grid.proofs.Stores.{sound_of}
 use Rattle.grid.proofs.Tells.{remove_tells}
 use Rattle.grid.proofs.grid_store.GridStoreStore.remove.Goals as goal
 
-pub invariant-of-self : goal.invariant-of-self
-invariant-of-self c =
+pub invariant_of-self : goal.invariant_of-self
+invariant_of-self c =
     let s = c.args.self.now in
     let t = remove_tells s.rows c.in-Some.i (record { ue = 0; places = [] }) (sound_of s) c.args.ue c.args.session c.remove.new.self c.remove.result c.in-Some.ensures c.remove.ensures.stood c.remove.ensures.change in
-    (t.sound.size, (t.sound.apart, (t.sound.bounds, tt)))
+    record { size = t.sound.size; apart = t.sound.apart; bounds = t.sound.bounds }
 
 pub returns-in-Some : goal.returns-in-Some
 returns-in-Some c =
