@@ -17,12 +17,12 @@ returns-then-is_empty c =
       | then-is_empty-via-then-is_empty w ↦ inl (eqb-true _ 0 (sym c.is_empty.ensures ∙ w.if-is_empty.true))
       | then-is_empty-via-else-is_empty+then-word-ne0 w ↦ inr w.if-word-ne0.true
     ] in
-    let v = sym (neither word (λ e. both_ways _ c.if-eq.false ((slice_eq-Decides Decides-eqb word (0x2D ∷ []) _ c.eq.ensures).1 e)) h) in
+    let v = sym (neither word (λ e. both_ways _ c.if-eq.false ((slice_eq-Decides Decides-eqb word (0x2D ∷ []) _ (rw c.as_slice.ensures at c.eq.ensures)).1 e)) h) in
     record { value = v; reads_back = octets_law v }
 
 -- the loop begins at the word's pairs
 at_start : (c : After-into_iter-pair-iterator) → chunks_exact_rest c.into_iter-pair-iterator.result ≡ c.args.word.now
-at_start c = ap chunks_exact_rest c.into_iter-pair-iterator.ensures.into_iter-gives ∙ c.chunks_exact-pair-items.ensures.rest
+at_start c = ap chunks_exact_rest c.into_iter-pair-iterator.ensures.into_iter_gives ∙ c.chunks_exact-pair-items.ensures.rest
 
 by_pairs : (c : After-into_iter-pair-iterator) → octets_in c.args.word.now ≡ pairs_in (chunks_exact_rest c.into_iter-pair-iterator.result)
 by_pairs c =
@@ -31,9 +31,9 @@ by_pairs c =
 
 pub loop-pair-init : goal.loop-pair-init
 loop-pair-init c =
-    let size = ap chunks_exact_size c.into_iter-pair-iterator.ensures.into_iter-gives ∙ c.chunks_exact-pair-items.ensures.size in (
-      tt,
+    let size = ap chunks_exact_size c.into_iter-pair-iterator.ensures.into_iter_gives ∙ c.chunks_exact-pair-items.ensures.size in (
       omega (arith, size),
+      tt,
       size,
       ap (λ l. length l % 2) (at_start c) ∙ c.if-word-ne0.false,
       ap (λ ys. after ys (pairs_in (chunks_exact_rest c.into_iter-pair-iterator.result))) c.new-octets.ensures.items ∙ after_none _,
@@ -55,8 +55,8 @@ loop-pair-preserved c =
     let rest = chunks_exact_rest c.next.new.self in
     let size = s.0 ∙ inv.2 in
     let two = s.1.1 ∙ inv.2 in (
-      tt,
       omega (arith, size),
+      tt,
       size,
       omega (arith, inv.3, two, ap length s.1.0, length-append pair rest),
       ap (λ ys. after ys (pairs_in rest)) c.in_ok-push.ensures.items

@@ -2,7 +2,7 @@ use Rattle.std.proofs.Common.{◌≡◌, map, vec_items, ap, ◌∙◌, arith}
 use Rattle.scenario.specs.Words.{text, words}
 use Rattle.scenario.proofs.Cuts.{moved, go_on, cut, pass, cut_last, pass_last, one_found, words_law}
 use Rattle.scenario.proofs.words.split_words.Goals as goal
-use Rattle.scenario.proofs.words.split_words.Goals.{then-octet-eq-SPACE, then-start-i+in-ok-push, else-start-i, else-octet-eq-SPACE, then-start-line+in-ok-push-2, else-start-line}
+use Rattle.scenario.proofs.words.split_words.Goals.{then-octet-eq-SPACE, then-start-i+in_ok-push, else-start-i, else-octet-eq-SPACE, then-start-line+in_ok-push-2, else-start-line}
 
 pub loop-i-preserved : goal.loop-i-preserved
 loop-i-preserved c =
@@ -12,7 +12,7 @@ loop-i-preserved c =
     elim c.if-octet-eq-SPACE.branch [
       | then-octet-eq-SPACE w ↦
           elim w.if-start-i.branch [
-            | then-start-i+in-ok-push w' ↦
+            | then-start-i+in_ok-push w' ↦
                 moved line _ (ap (λ v. map text (vec_items v)) (w.found-is ∙ w'.found-is) ∙ one_found (vec_items c.loop-i.found) _ w'.in_ok-push.ensures.items) w.start-is
                 (cut line _ _ _ inv lt w.if-octet-eq-SPACE.true w'.if-start-i.true)
             | else-start-i w' ↦
@@ -29,7 +29,7 @@ returns c =
     let inv = c.loop-i.invariant in
     let v : map text (vec_items c.if-start-line.found) ≡ words line =
     elim c.if-start-line.branch [
-      | then-start-line+in-ok-push-2 w ↦
+      | then-start-line+in_ok-push-2 w ↦
           ap (λ v. map text (vec_items v)) w.found-is ∙ one_found (vec_items c.loop-i.found) _ w.in_ok-push-2.ensures.items
           ∙ cut_last line _ _ _ inv (omega arith) w.if-start-line.true
       | else-start-line w ↦
