@@ -1,14 +1,14 @@
 -- The words of a line, and the command that they make.
-use Rattle.std.proofs.Common.{◌≡◌, ℕ, ◌+◌, ◌-◌, ◌<◌, Bool, true, false, cond, eqb, List, [], ◌∷◌, ◌++◌, map, length, get_or, take, Some, None, Option, sym, refl, ap, ◌∙◌, arith, Bor}
+use Rattle.std.proofs.Common.{◌≡◌, ℕ, ◌+◌, ◌-◌, ◌<◌, Bool, true, false, List, [], ◌∷◌, ◌++◌, map, length, get_or, take, None, codes, Decides, sym, refl, ap, ◌∙◌, arith, Bor}
 use Rattle.std.specs.Option.{option_map}
-use Rattle.std.proofs.lemmas.List.{take_all, take_more, length-map, get_or-map}
-use Rattle.std.proofs.lemmas.Bool.{cond-true, cond-false, eq-eqb, ne_eqb}
+use Rattle.std.specs.Str.{bytes_eq}
+use Rattle.std.proofs.lemmas.Slice.Eq.{bytes_eq-Decides}
+use Rattle.std.proofs.lemmas.List.{take_all, take_more}
+use Rattle.std.proofs.lemmas.Bool.{cond-true, cond-false}
+use Rattle.std.proofs.lemmas.Bool.Decides.{same_from_decides}
 use Rattle.scenario.specs.Octets.{octets_in}
 use Rattle.scenario.specs.Words.{text}
-use Rattle.hall.specs.Changes.{Change, where_some, at, of_one, of_three, of_four, grid_of, flat_of, store_words}
-use Rattle.hall.specs.Commands.{read, read_words, command_of, command_words}
-use Rattle.hall.specs.Verbs.{verb_in}
-use Rattle.hall.specs.declared.verb.Verb.{Verb}
+use Rattle.hall.specs.Lines.{read, read_words, command_words}
 
 -- one word behind `read`, and any other number of them
 pub one_word : (words : List (Bor (List ℕ))) (d : Bor (List ℕ)) → length words ≡ 1 → read_words (map text words) ≡ option_map read (octets_in (get_or words 0 d).now)
@@ -26,58 +26,18 @@ no_words [] h = refl
 no_words (w ∷ ws) h = absurd (omega arith)
 
 -- the first word decides
-module _ (words rest : List (Bor (List ℕ))) (word : Bor (List ℕ)) (are : words ≡ word ∷ rest) where
-  decided : (o : Option Verb) → verb_in word.now ≡ o → command_words (map text words) ≡ where_some o (λ verb. command_of verb (map text rest))
-  decided o e =
-      ap (λ ws. command_words (map text ws)) are ∙ ap (λ o. where_some o (λ verb. command_of verb (map text rest))) e
+module _ (words rest : List (Bor (List ℕ))) (verb : Bor (List ℕ)) (b : Bool) (are : words ≡ verb ∷ rest) (is : Decides b (verb.now ≡ codes "read")) where
+  same_verb : bytes_eq verb.now (codes "read") ≡ b
+  same_verb = same_from_decides _ b (bytes_eq-Decides verb.now (codes "read")) is
 
-  pub verb_some : (verb : Verb) → verb_in word.now ≡ Some verb → command_words (map text words) ≡ command_of verb (map text rest)
-  verb_some verb e = decided (Some verb) e
+  pub verb_read : b ≡ true → command_words (map text words) ≡ read_words (map text rest)
+  verb_read e = ap (λ ws. command_words (map text ws)) are ∙ cond-true _ _ _ (same_verb ∙ e)
 
-  pub verb_none : verb_in word.now ≡ None → command_words (map text words) ≡ None
-  verb_none e = decided None e
+  pub verb_other : b ≡ false → command_words (map text words) ≡ None
+  verb_other e = ap (λ ws. command_words (map text ws)) are ∙ cond-false _ _ _ (same_verb ∙ e)
 
 -- a line that ends in a line feed, cut in front of it
 pub cut_feed : (xs : List ℕ) (n : ℕ) → 0 < length xs → n ≡ length xs - 1 → get_or xs (length xs - 1) 0 ≡ 0x0A → xs ≡ take n xs ++ 0x0A ∷ []
 cut_feed xs n some is last =
     let within : n < length xs = omega arith in
     sym (take_all (n + 1) xs (omega arith)) ∙ take_more xs n 0 within ∙ ap (λ x. take n xs ++ x ∷ []) (ap (λ k. get_or xs k 0) is ∙ last)
-
--- the words of a list, one by one
-text_at : (ws : List (Bor (List ℕ))) (i : ℕ) (d : Bor (List ℕ)) → i < length ws → at (map text ws) i ≡ (get_or ws i d).now
-text_at ws i d lt = get_or-map text ws i d [] lt
-
-count_is : (ws : List (Bor (List ℕ))) (n : ℕ) → length ws ≡ n → eqb (length (map text ws)) n ≡ true
-count_is ws n e = ap (λ k. eqb k n) (length-map ws text ∙ e) ∙ eq-eqb n n refl
-
-count_other : (ws : List (Bor (List ℕ))) (n : ℕ) → (length ws ≡ n → ⊥) → eqb (length (map text ws)) n ≡ false
-count_other ws n h = ap (λ k. eqb k n) (length-map ws text) ∙ ne_eqb (length ws) n h
-
-module _ (ws : List (Bor (List ℕ))) (d : Bor (List ℕ)) where
-  pub of_one_word : (f : List ℕ → Option Change) → length ws ≡ 1 → of_one f (map text ws) ≡ f (get_or ws 0 d).now
-  of_one_word f e = cond-true _ _ _ (count_is ws 1 e) ∙ ap f (text_at ws 0 d (omega arith))
-
-  pub of_three_words : (f : List ℕ → List ℕ → List ℕ → Option Change) → length ws ≡ 3 → of_three f (map text ws) ≡ f (get_or ws 0 d).now (get_or ws 1 d).now (get_or ws 2 d).now
-  of_three_words f e =
-      cond-true _ _ _ (count_is ws 3 e) ∙ (λ i. f (text_at ws 0 d (omega arith) i) (text_at ws 1 d (omega arith) i) (text_at ws 2 d (omega arith) i))
-
-  pub of_four_words : (f : List ℕ → List ℕ → List ℕ → List ℕ → Option Change) → length ws ≡ 4 → of_four f (map text ws) ≡ f (get_or ws 0 d).now (get_or ws 1 d).now (get_or ws 2 d).now (get_or ws 3 d).now
-  of_four_words f e =
-      cond-true _ _ _ (count_is ws 4 e) ∙ (λ i. f (text_at ws 0 d (omega arith) i) (text_at ws 1 d (omega arith) i) (text_at ws 2 d (omega arith) i) (text_at ws 3 d (omega arith) i))
-
--- any other number of words makes none
-pub of_other : {X : Type 0} (ws : List (Bor (List ℕ))) (n : ℕ) (x : Option X) → (length ws ≡ n → ⊥) → cond (eqb (length (map text ws)) n) x None ≡ None
-of_other ws n x h = cond-false _ _ _ (count_other ws n h)
-
--- the words behind `store`
-module _ (ws : List (Bor (List ℕ))) (d : Bor (List ℕ)) where
-  pub store_one : length ws ≡ 1 → store_words (map text ws) ≡ grid_of (get_or ws 0 d).now
-  store_one e = cond-true _ _ _ (count_is ws 1 e) ∙ ap grid_of (text_at ws 0 d (omega arith))
-
-  pub store_two : length ws ≡ 2 → store_words (map text ws) ≡ flat_of (get_or ws 0 d).now (get_or ws 1 d).now
-  store_two e =
-      cond-false _ _ _ (count_other ws 1 (λ one. omega arith)) ∙ cond-true _ _ _ (count_is ws 2 e)
-      ∙ (λ i. flat_of (text_at ws 0 d (omega arith) i) (text_at ws 1 d (omega arith) i))
-
-pub store_other : (ws : List (Bor (List ℕ))) → (length ws ≡ 1 → ⊥) → (length ws ≡ 2 → ⊥) → store_words (map text ws) ≡ None
-store_other ws one two = cond-false _ _ _ (count_other ws 1 one) ∙ cond-false _ _ _ (count_other ws 2 two)

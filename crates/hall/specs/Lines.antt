@@ -1,23 +1,33 @@
 -- What a line of a scenario asks for, and what it prints.
-use Rattle.std.specs.Prelude.{◌≡◌, ℕ, ◌-◌, ◌<◌, Bool, true, false, ◌||◌, ◌⊎◌, List, [], ◌∷◌, ◌++◌, length, Some, None, Ok, Err, codes, decimal, Option, Result, ◌==◌, ◌≢◌, slice_index}
-use Rattle.std.specs.Option.{unwrap_or}
+use Rattle.std.specs.Prelude.{◌≡◌, ℕ, ◌-◌, ◌<◌, Bool, cond, ◌||◌, ◌⊎◌, List, [], ◌∷◌, ◌++◌, length, Some, None, Ok, Err, codes, decimal, Option, Result, ◌==◌, ◌≢◌, slice_index}
+use Rattle.std.specs.Option.{option_map, unwrap_or}
 use Rattle.std.specs.List.{AllByRecursion as All}
+use Rattle.std.specs.Str.{bytes_eq}
 use Rattle.nas.specs.Uplinks as uplinks
 use Rattle.nas.specs.Uplinks.{Message}
 use Rattle.printing.specs.Octets.{octets_text}
 use Rattle.printing.specs.Slice.{slice_octets}
+use Rattle.scenario.specs.Octets.{octets_in}
 use Rattle.scenario.specs.Words.{begins_with, words}
-use Rattle.control.specs.declared.control_row.ControlRow.{ControlRow}
-use Rattle.hall.specs.declared.directory.HallDirectory.{HallDirectory}
-use Rattle.hall.specs.declared.outcome.Outcome.{Outcome}
-use Rattle.hall.specs.declared.verb.Verb.TheVariants.{Read}
-use Rattle.hall.specs.Commands.{Command, read, change, command_words}
-use Rattle.hall.specs.Effects.{OutcomeFor}
-use Rattle.hall.specs.Outcomes.{refused_line, error_line, outcome_line}
 
 -- the line xs without the line feed at its end, if it has one
 abbrev pub Unended : List ℕ → List ℕ → Type 0
 Unended xs ys = (xs ≡ ys ++ 0x0A ∷ []) ⊎ ((ys ≡ xs) × (slice_index xs (length xs - 1) ≢ 0x0A))
+
+-- ---- what a line asks for
+
+pub data Command : Type 0 where
+  read : List ℕ → Command
+
+-- the words behind `read`
+abbrev pub read_words : List (List ℕ) → Option Command
+read_words [] = None
+read_words (word ∷ []) = option_map read (octets_in word)
+read_words (word ∷ more ∷ rest) = None
+
+abbrev pub command_words : List (List ℕ) → Option Command
+command_words [] = None
+command_words (verb ∷ rest) = cond (bytes_eq verb (codes "read")) (read_words rest) None
 
 -- ---- what it prints
 
@@ -37,22 +47,19 @@ message_line m =
 
 abbrev pub read_line : Result Message ℕ → List ℕ
 read_line (Ok m) = message_line m
-read_line (Err n) = refused_line Read n
+read_line (Err n) = codes "read refused " ++ decimal n
 
--- What a command of this line number prints, by the directory and the control rows that stand before it: what is read,
--- or the line of the outcome.
-abbrev pub Printed : Option HallDirectory → List ControlRow → ℕ → Command → List ℕ → Type 0
-Printed d rows number (read octets) s = s ≡ read_line (uplinks.read octets)
-Printed d rows number (change c) s = (o : Outcome) × OutcomeFor d rows c o × (s ≡ outcome_line number c o)
-
--- the same, where the line may be no command
-abbrev pub PrintedIf : Option HallDirectory → List ControlRow → ℕ → Option Command → List ℕ → Type 0
-PrintedIf d rows number None s = s ≡ error_line number
-PrintedIf d rows number (Some command) s = Printed d rows number command s
+abbrev pub answer_line : ℕ → Option Command → List ℕ
+answer_line number None = codes "error " ++ decimal number
+answer_line number (Some (read octets)) = read_line (uplinks.read octets)
 
 -- a comment, or no word at all
 abbrev pub silent : List ℕ → Bool
 silent line = begins_with 0x23 line || length (words line) == 0
+
+-- what the line of this number prints, if it prints anything
+abbrev pub printed : ℕ → List ℕ → Option (List ℕ)
+printed number line = cond (silent line) None (Some (answer_line number (command_words (words line))))
 
 -- ---- what holds of every answer o to the line of this number
 
@@ -61,8 +68,7 @@ abbrev pub OctetsRead : List ℕ → Option (List ℕ) → Type 0
 OctetsRead line o =
     (xs : List ℕ) → All (λ x. x < 256) xs → line ≡ codes "read " ++ octets_text xs → o ≡ Some (read_line (uplinks.read xs))
 
--- what every answer o to the line of this number is
-pub record Answers (d : Option HallDirectory) (rows : List ControlRow) (number : ℕ) (line : List ℕ) (o : Option (List ℕ)) : Type 0 where
-  pub quiet : silent line ≡ true → o ≡ None
-  pub loud : silent line ≡ false → (s : List ℕ) × (o ≡ Some s) × PrintedIf d rows number (command_words (words line)) s
+-- the answer is the one that the definition gives, and keeps this law
+pub record Answers (number : ℕ) (line : List ℕ) (o : Option (List ℕ)) : Type 0 where
+  pub value : o ≡ printed number line
   pub octets_read : OctetsRead line o

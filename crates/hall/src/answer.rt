@@ -5,18 +5,12 @@ ghost use Rattle.codes.specs.RequestTypes.{request_number};
 ghost use Rattle.nas.specs.Uplinks.{read};
 ghost use Rattle.nas.specs.Views.{decoded};
 ghost use Rattle.scenario.specs.Words.{begins_with};
-ghost use Rattle.hall.specs.Lines.{message_line, read_line, Printed, PrintedIf, Answers};
-ghost use Rattle.hall.specs.Readings.{asked};
+ghost use Rattle.hall.specs.Commands.{asked};
+ghost use Rattle.hall.specs.Lines.{message_line, read_line, answer_line, Answers};
 
 use crate::command::{Command, parse_command};
-use crate::hall::Hall;
-use crate::outcome::{error_line, outcome_line, refused_line};
-use crate::verb::Verb;
-use codes::{RequestType, SliceCode};
-use control::ControlTable;
-use nas::{Uplink, read_uplink};
-use printing::{Octets, OrAbsent, Slice};
-use scenario::{begins_with, split_words};
+use nas::{RequestType, SliceCode, Uplink, read_uplink};
+use scenario::{Octets, OrAbsent, Slice, begins_with, split_words};
 use std::alloc::{AllocError, Global};
 
 // A request type by its number.
@@ -60,42 +54,20 @@ fn read_line(heap: Global, octets: &[u8]) -> Result<String, AllocError>
 {
     match read_uplink(octets) {
         Ok(uplink) => message_line(heap, &uplink),
-        Err(refusal) => refused_line(heap, Verb::Read, refusal),
-    }
-}
-
-// What a line of this number prints that asks for `command`.
-fn command_line(
-    heap: Global,
-    hall: &mut Hall,
-    table: &mut ControlTable<'_>,
-    number: u64,
-    command: &Command,
-) -> Result<String, AllocError>
-    ensures { IfOk result (λ s. Printed hall.old.directory table.old.table.rows.now number (asked command.now) (string_bytes s)) }
-{
-    match command {
-        Command::Read(octets) => read_line(heap, octets.as_slice()),
-        Command::Change(change) => {
-            let outcome = hall.apply(heap, table, change)?;
-            outcome_line(heap, number, change, outcome)
+        Err(refusal) => {
+            let number = refusal.number();
+            format!(in heap; "read refused {number}")
         }
     }
 }
 
-// The same, where the line may ask for nothing that there is.
-fn answer_line(
-    heap: Global,
-    hall: &mut Hall,
-    table: &mut ControlTable<'_>,
-    number: u64,
-    command: Option<Command>,
-) -> Result<String, AllocError>
-    ensures { IfOk result (λ s. PrintedIf hall.old.directory table.old.table.rows.now number (option_map asked command) (string_bytes s)) }
+// What a line of this number prints that asks for `command`, or for nothing that there is.
+fn answer_line(heap: Global, number: u64, command: Option<Command>) -> Result<String, AllocError>
+    ensures { IfOk result (λ s. string_bytes s ≡ answer_line number (option_map asked command)) }
 {
     match command {
-        Some(command) => command_line(heap, hall, table, number, &command),
-        None => error_line(heap, number),
+        Some(Command::Read(octets)) => read_line(heap, octets.as_slice()),
+        None => format!(in heap; "error {number}"),
     }
 }
 
@@ -106,19 +78,13 @@ fn is_comment(line: &[u8]) -> bool
 }
 
 // What the line of this number prints, if it prints anything.
-pub(crate) fn answer(
-    heap: Global,
-    hall: &mut Hall,
-    table: &mut ControlTable<'_>,
-    number: u64,
-    line: &[u8],
-) -> Result<Option<String>, AllocError>
-    ensures { IfOk result (λ o. Answers hall.old.directory table.old.table.rows.now number line.now (option_map string_bytes o)) }
+pub(crate) fn answer(heap: Global, number: u64, line: &[u8]) -> Result<Option<String>, AllocError>
+    ensures { IfOk result (λ o. Answers number line.now (option_map string_bytes o)) }
 {
     let words = split_words(heap, line)?;
     if is_comment(line) || words.is_empty() {
         return Ok(None);
     }
     let command = parse_command(heap, words.as_slice())?;
-    Ok(Some(answer_line(heap, hall, table, number, command)?))
+    Ok(Some(answer_line(heap, number, command)?))
 }

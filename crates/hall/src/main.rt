@@ -4,18 +4,10 @@
 ghost use Rattle.hall.specs.Lines.{Unended};
 
 mod answer;
-mod change;
 mod command;
-mod directory;
-mod hall;
-mod outcome;
-mod parse_change;
-mod verb;
 
 use answer::answer;
-use control::{ControlRow, ControlTable};
-use hall::Hall;
-use std::io::{BufRead, BufReader, Stdin};
+use std::io::{BufRead, BufReader};
 
 // A line without the line feed that ends it, if one does.
 fn without_feed(line: &[u8]) -> &[u8]
@@ -29,53 +21,18 @@ fn without_feed(line: &[u8]) -> &[u8]
     }
 }
 
-// Plays lines from the one of this number on, until one asks for another control table or the text ends.
-// What it gives is the number of the next line.
-fn play_on_table(
-    rt: &HostRuntime,
-    input: &mut BufReader<Stdin>,
-    hall: &mut Hall,
-    rows: usize,
-    first: u64,
-) -> anyhow::Result<u64> {
+fn play(rt: &HostRuntime) -> anyhow::Result<()> {
     let heap = rt.alloc();
-    let mut space = [ControlRow::free(); 64];
-    // Only so many rows are wanted as a table was tried with, so that this one is made.
-    let Ok(mut table) = ControlTable::new(&mut space[..rows.min(64)]) else {
-        return Ok(first);
-    };
+    let mut input = BufReader::new(heap, rt.stdin())?;
     let mut line = Vec::new(heap);
-    for number in first..u64::MAX {
+    for number in 1..u64::MAX {
         line.clear();
         if input.read_until(b'\n', &mut line)? == 0 {
             break;
         }
-        if let Some(text) = answer(
-            heap,
-            hall,
-            &mut table,
-            number,
-            without_feed(line.as_slice()),
-        )? {
+        if let Some(text) = answer(heap, number, without_feed(line.as_slice()))? {
             rt.println(text)?;
         }
-        if hall.wants_rows() {
-            return Ok(number + 1);
-        }
-    }
-    Ok(u64::MAX)
-}
-
-fn play(rt: &HostRuntime) -> anyhow::Result<()> {
-    let mut input = BufReader::new(rt.alloc(), rt.stdin())?;
-    let mut hall = Hall::new();
-    let mut number = 1;
-    // Each turn plays a line at least, and there are no more than these.
-    for _ in 1..u64::MAX {
-        let Some(rows) = hall.take_wanted_rows() else {
-            break;
-        };
-        number = play_on_table(rt, &mut input, &mut hall, rows, number)?;
     }
     Ok(())
 }

@@ -3,8 +3,9 @@ ghost use Rattle.std.specs.Prelude.{◌≡◌, ◌<◌, ◌≤◌, length, IfOk,
 ghost use Rattle.names.specs.Names.{Numbers, Sized, Apart, Follows, GoodNames};
 ghost use Rattle.names.specs.OwnNames.{own_names, lent_names, Made, Unmade};
 
+use crate::book_error::BookError;
 use crate::name::{Name, number_in};
-use codes::{DnnNumber, Refusal, SetupError};
+use codes::{DnnNumber, Refusal};
 use std::alloc::{AllocError, Global};
 
 #[derive(Drop)]
@@ -52,11 +53,11 @@ fn copy_names(heap: Global, names: &[&[u8]]) -> Result<Vec<Name>, AllocError>
 
 impl Book {
     // The names are checked before any memory is asked for.
-    pub fn new(heap: Global, names: &[&[u8]]) -> Result<Book, SetupError>
+    pub fn new(heap: Global, names: &[&[u8]]) -> Result<Book, BookError>
         ensures { MatchResult result (λ b. Made (lent_names names.now) (own_names b.names.items)) (λ e. Unmade (lent_names names.now) e) }
     {
         if !good_names(names) {
-            return Err(SetupError::Refused(Refusal::Opening));
+            return Err(BookError::Refused(Refusal::Opening));
         }
         let names = copy_names(heap, names)?;
         Ok(Book { names })

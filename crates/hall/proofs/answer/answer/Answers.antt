@@ -1,10 +1,9 @@
-use Rattle.std.proofs.Common.{◌≡◌, true, eqb, map, length, vec_items, vec_len, sym, ap, ◌∙◌}
+use Rattle.std.proofs.Common.{◌≡◌, true, eqb, map, length, Some, vec_items, vec_len, sym, ap, ◌∙◌}
 use Rattle.std.proofs.lemmas.List.{length-map}
-use Rattle.std.proofs.lemmas.Bool.{or_left, or_right, or_from}
+use Rattle.std.proofs.lemmas.Bool.{cond-true, cond-false, or_left, or_right, or_from}
 use Rattle.scenario.specs.Words.{text, words}
-use Rattle.hall.specs.Commands.{command_words}
-use Rattle.hall.specs.Lines.{silent}
-use Rattle.hall.proofs.Lawful.{lawful, lawful_none}
+use Rattle.hall.specs.Lines.{silent, command_words, answer_line}
+use Rattle.hall.proofs.Lawful.{lawful}
 use Rattle.hall.proofs.answer.answer.Goals as goal
 use Rattle.hall.proofs.answer.answer.Goals.{In_ok-words, then-is_comment-via-then-is_comment, then-is_comment-via-else-is_comment+then-is_empty}
 
@@ -22,11 +21,11 @@ returns-then-is_comment c =
       | then-is_comment-via-then-is_comment w ↦ or_left _ _ (sym c.is_comment.ensures ∙ w.if-is_comment.true)
       | then-is_comment-via-else-is_comment+then-is_empty w ↦ or_right _ _ (ap (λ k. eqb k 0) n ∙ sym w.is_empty.ensures ∙ w.if-is_empty.true)
     ] in
-    lawful_none _ _ _ _ quiet
+    lawful c.args.number c.args.line.now _ (sym (cond-true _ _ _ quiet))
 
 pub returns : goal.returns
 returns c =
     let n = counted (goal.at.returns c).In_ok-words in
     let loud = or_from _ _ (sym c.is_comment.ensures ∙ c.if-is_comment.false) (ap (λ k. eqb k 0) n ∙ sym c.is_empty.ensures ∙ c.if-is_empty.false) in
     let said = c.in_ok-command.ensures ∙ ap (λ l. command_words (map text l)) c.as_slice.ensures.value ∙ ap command_words c.in_ok-words.ensures.value in
-    lawful _ _ c.args.number c.args.line.now loud said c.in_ok-answer_line.ensures
+    lawful c.args.number c.args.line.now _ (ap Some (c.in_ok-answer_line.ensures ∙ ap (answer_line c.args.number) said) ∙ sym (cond-false _ _ _ loud))

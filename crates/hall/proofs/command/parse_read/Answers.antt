@@ -1,6 +1,6 @@
 use Rattle.std.proofs.Common.{vec_items, sym, ap, ◌∙◌}
 use Rattle.std.specs.Option.{option_map}
-use Rattle.hall.specs.Commands.{read}
+use Rattle.hall.specs.Lines.{read}
 use Rattle.hall.proofs.Worded.{one_word, other_words}
 use Rattle.hall.proofs.command.parse_read.Goals as goal
 

@@ -1,0 +1,5 @@
+pub mod Shown
+pub mod Worded
+pub mod Named
+pub mod Setting
+pub mod Lawful

@@ -1,0 +1,10 @@
+use Rattle.std.proofs.Common.{sym, ◌∙◌}
+use Rattle.hall_setup.specs.Changes.{serve_of}
+use Rattle.hall_setup.proofs.Worded.{of_three_words, of_other}
+use Rattle.hall_setup.proofs.parse_change.parse_serve.Goals as goal
+
+pub returns-then-words-ne3 : goal.returns-then-words-ne3
+returns-then-words-ne3 c = sym (of_other c.args.words.now 3 _ c.if-words-ne3.true)
+
+pub returns : goal.returns
+returns c = c.serve_change.ensures ∙ sym (of_three_words c.args.words.now _ serve_of c.if-words-ne3.false)

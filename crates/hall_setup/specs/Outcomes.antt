@@ -1,0 +1,46 @@
+-- What the outcome of a change prints.
+use Rattle.std.specs.Prelude.{ℕ, true, false, List, ◌++◌, length, codes, decimal}
+use Rattle.codes.specs.Refusals.{refusal_number}
+use Rattle.hall_setup.specs.declared.change.StoreKind.TheVariants.{Flat, Grid}
+use Rattle.hall_setup.specs.declared.change.DirectoryKind.TheVariants as kinds
+use Rattle.hall_setup.specs.declared.outcome.Outcome.{Outcome}
+use Rattle.hall_setup.specs.declared.outcome.Outcome.TheVariants.{Accepted, Refused, Misplaced}
+use Rattle.hall_setup.specs.declared.verb.Verb.{Verb}
+use Rattle.hall_setup.specs.declared.verb.Verb.TheVariants as verbs
+use Rattle.hall_setup.specs.Changes.{Change, book, store, directory, serve, mark, control, set, clear}
+use Rattle.hall_setup.specs.Verbs.{verb_word}
+
+abbrev pub verb_of : Change → Verb
+verb_of (book names) = verbs.Book
+verb_of (store kind) = verbs.Store
+verb_of (directory kind) = verbs.Directory
+verb_of (serve line) = verbs.Serve
+verb_of (mark is) = verbs.Mark
+verb_of (control rows) = verbs.Control
+verb_of (set line octet) = verbs.Set
+verb_of (clear line) = verbs.Clear
+
+abbrev pub accepted_line : Change → List ℕ
+accepted_line (book names) = codes "book " ++ decimal (length names)
+accepted_line (store (Flat rows)) = codes "store flat " ++ decimal rows
+accepted_line (store Grid) = codes "store grid"
+accepted_line (directory kinds.List) = codes "directory list"
+accepted_line (directory kinds.Turning) = codes "directory turning"
+accepted_line (serve line) = codes "serve"
+accepted_line (mark true) = codes "mark open"
+accepted_line (mark false) = codes "mark closed"
+accepted_line (control rows) = codes "control " ++ decimal rows
+accepted_line (set line octet) = codes "set"
+accepted_line (clear line) = codes "clear"
+
+abbrev pub refused_line : Verb → ℕ → List ℕ
+refused_line verb n = verb_word verb ++ (codes " refused " ++ decimal n)
+
+-- of the line of this number
+abbrev pub error_line : ℕ → List ℕ
+error_line number = codes "error " ++ decimal number
+
+abbrev pub outcome_line : ℕ → Change → Outcome → List ℕ
+outcome_line number c Accepted = accepted_line c
+outcome_line number c (Refused r) = refused_line (verb_of c) (refusal_number r)
+outcome_line number c Misplaced = error_line number
