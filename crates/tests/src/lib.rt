@@ -2,16 +2,16 @@
 #![tactic(auto)]
 
 #[cfg(test)]
-mod control;
+mod context_stores;
 #[cfg(test)]
-mod directories;
+mod control_lines;
 #[cfg(test)]
-mod names;
+mod dnn_names;
 #[cfg(test)]
-mod nas;
+mod messages;
 #[cfg(test)]
-mod printing;
+mod printed_values;
 #[cfg(test)]
-mod scenario;
+mod scenario_words;
 #[cfg(test)]
-mod stores;
+mod smf_directories;

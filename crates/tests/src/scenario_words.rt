@@ -42,7 +42,7 @@ fn reads_one_octet(rt: HostRuntime) {
 fn splits_words(rt: HostRuntime) -> Result<(), Fail> {
     let words = split_words(rt.alloc(), b"  a  bc ")?;
     assert!(rt; words.len() == 2);
-    assert!(rt; words[0] == b"a" && words[1] == b"bc");
+    assert!(rt; words[0] == b"a".as_slice() && words[1] == b"bc".as_slice());
     Ok(())
 }
 

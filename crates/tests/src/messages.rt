@@ -36,7 +36,7 @@ fn with_element(heap: Global, kind: u8, length: u8) -> Result<Vec<u8>, AllocErro
 fn reads_the_sample(rt: HostRuntime) -> Result<(), Fail> {
     let octets = sample_message();
     let uplink = read_uplink(&octets)?;
-    assert_eq!(rt; uplink.payload, b"\x2E\x01\x01\xC1");
+    assert_eq!(rt; uplink.payload, b"\x2E\x01\x01\xC1".as_slice());
     assert_eq!(rt; uplink.session, 1);
     assert_eq!(rt; uplink.request_type, Some(RequestType::Initial));
     assert!(rt; uplink.old_session.is_none() && uplink.slice.is_none() && uplink.dnn.is_none());
