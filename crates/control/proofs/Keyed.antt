@@ -1,5 +1,5 @@
 -- What a table's calls say of control rows, told by keys.
-use Rattle.std.proofs.Common.{◌≡◌, ℕ, ◌+◌, ◌<◌, Bool, true, false, cond, not, ◌&&◌, eqb, ◌⊎◌, List, length, get_or, set, is_some, Some, None, Ok, Err, MatchBool, Option, Result, sym, refl, ap, ◌∙◌, subst, inl, inr, arith, length-set, MatchResult}
+use Rattle.std.proofs.Common.{◌≡◌, ℕ, ◌+◌, Bool, true, false, cond, not, eqb, ◌⊎◌, List, length, get_or, is_some, Some, None, Ok, Err, Option, Result, sym, refl, ap, ◌∙◌, subst, inl, inr, length-set, MatchResult}
 use Rattle.std.proofs.lemmas.Bool.{cases_Bool, and_parts, and_from, eqb-true, eq-eqb, true≢false, false≢true}
 use Rattle.codes.specs.declared.refusal.Refusal.{Refusal}
 use Rattle.codes.specs.declared.refusal.Refusal.TheVariants.{ControlKind, ControlFull}
@@ -7,8 +7,6 @@ use Rattle.tables.specs.Lists.{first_that}
 use Rattle.tables.specs.Rows.{Absent, First, FirstFree, Apart, AllFree}
 use Rattle.tables.specs.Tables.{Takes, Frees, Sets, Removes}
 use Rattle.tables.specs.Tables as tables
-use Rattle.tables.proofs.Lists.{passes_at}
-use Rattle.tables.proofs.Found as found
 use Rattle.tables.proofs.Found.{Tests, absent_none, first_some, takes_here, takes_other, takes_size, frees_here, frees_other, frees_size, none_used, all_used}
 use Rattle.control.specs.declared.control_key.ControlKey.{ControlKey}
 use Rattle.control.specs.declared.control_key.ControlKey.TheVariants.{Dnn, SliceAndDnn, Slice}

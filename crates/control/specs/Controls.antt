@@ -1,5 +1,5 @@
 -- What setting and clearing a control line do, told by keys.
-use Rattle.std.specs.Prelude.{◌≡◌, ℕ, ◌+◌, ◌<◌, Bool, true, false, cond, List, length, is_some, Some, None, Err, Option, Result, MatchResult}
+use Rattle.std.specs.Prelude.{◌≡◌, ℕ, ◌+◌, true, cond, List, length, is_some, Some, None, Err, Option, Result, MatchResult}
 use Rattle.codes.specs.declared.refusal.Refusal.{Refusal}
 use Rattle.codes.specs.declared.refusal.Refusal.TheVariants.{ControlKind, ControlFull}
 use Rattle.control.specs.declared.control_key.ControlKey.{ControlKey}

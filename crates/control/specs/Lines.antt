@@ -1,5 +1,5 @@
 -- The rows of a control table, and the lines in them.
-use Rattle.std.specs.Prelude.{◌≡◌, ℕ, ◌+◌, ◌<◌, Bool, true, false, cond, not, ◌&&◌, List, length, is_some, Some, None, Option, nat_lt}
+use Rattle.std.specs.Prelude.{ℕ, Bool, false, cond, not, ◌&&◌, List, is_some, Some, None, Option, nat_lt}
 use Rattle.tables.specs.Lists.{first_that, sum_of}
 use Rattle.control.specs.declared.control_key.ControlKey.{ControlKey}
 use Rattle.control.specs.declared.control_key.ControlKey.TheVariants.{Dnn}

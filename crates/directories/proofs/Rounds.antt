@@ -5,7 +5,6 @@ use Rattle.std.proofs.lemmas.Bool.Decides.{nat_tests}
 use Rattle.directories.specs.declared.served_set.ServedSet.{ServedSet}
 use Rattle.directories.specs.Meanings.{Lawful, Sole}
 use Rattle.directories.specs.Searches.{some_of}
-use Rattle.directories.specs.Lines.{numbered}
 use Rattle.directories.specs.Sets.{set_for, set_serves, sets_serve, good_set, good_sets, no_set}
 use Rattle.directories.specs.Turns.{sooner, takes_next, Next, InTurn}
 use Rattle.directories.proofs.Named.{positive}

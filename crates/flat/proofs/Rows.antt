@@ -1,13 +1,13 @@
 -- The rows of a flat store, told by the contexts in them.
-use Rattle.std.proofs.Common.{◌≡◌, ℕ, zero, suc, ◌+◌, ◌<◌, ◌≤◌, Bool, true, false, cond, not, ◌&&◌, ◌||◌, eqb, ltb, ◌⊎◌, List, [], ◌∷◌, length, get_or, drop, set, is_some, Some, None, Option, sym, refl, ap, ◌∙◌, subst, inl, inr, zero-lt-suc, arith}
+use Rattle.std.proofs.Common.{◌≡◌, ℕ, suc, ◌+◌, ◌<◌, ◌≤◌, Bool, true, false, cond, not, eqb, ltb, ◌⊎◌, List, [], ◌∷◌, length, get_or, drop, is_some, Some, None, Option, sym, refl, ap, ◌∙◌, inl, inr, zero-lt-suc, arith}
 use Rattle.std.proofs.lemmas.List.{at_drop_more, at_drop_all}
 use Rattle.std.proofs.lemmas.Bool.{cases_Bool, ltb-true, ltb-false, and_parts, and_from, eqb-true, eq-eqb, true≢false, false≢true}
 use Rattle.tables.specs.Lists.{first_that, sum_of}
-use Rattle.tables.specs.Rows.{Held, Absent, Apart, AllFree}
+use Rattle.tables.specs.Rows.{Apart, AllFree}
 use Rattle.tables.proofs.Aparts.{apart_tail, apart_head}
-use Rattle.tables.proofs.Found.{Tests, absent_none, used, none_used}
+use Rattle.tables.proofs.Found.{Tests, absent_none, used}
 use Rattle.stores.specs.declared.context.Context.{Context}
-use Rattle.stores.specs.Contexts.{is_of, lookup, Once, fits, lower_of}
+use Rattle.stores.specs.Contexts.{is_of, lookup, Once, lower_of}
 use Rattle.stores.proofs.Questions.{AllFit, other_bit, low_of}
 use Rattle.flat.specs.declared.context_row.ContextRow.{ContextRow}
 use Rattle.flat.specs.declared.pair.Pair.{Pair}

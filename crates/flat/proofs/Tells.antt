@@ -1,6 +1,6 @@
 -- What a table's calls say of its rows, told of the contexts in them.
-use Rattle.std.proofs.Common.{◌≡◌, ℕ, ◌+◌, ◌<◌, ◌≤◌, Bool, true, false, cond, not, ◌&&◌, ◌||◌, eqb, ltb, ◌⊎◌, List, [], ◌∷◌, length, get_or, set, is_some, Some, None, Decides, MatchBool, Option, sym, refl, ap, ◌∙◌, subst, inl, inr, arith, length-set, Bor}
-use Rattle.std.proofs.lemmas.Bool.{cases_Bool, and_parts, and_from, and_left, and_right, or_left, or_right, or_from, eqb-true, eq-eqb, ne_eqb, lt-ltb, le-ltb, true≢false}
+use Rattle.std.proofs.Common.{◌≡◌, ℕ, ◌+◌, ◌≤◌, Bool, true, false, cond, not, ◌&&◌, eqb, ltb, ◌⊎◌, List, length, get_or, is_some, Some, None, Decides, MatchBool, Option, sym, refl, ap, ◌∙◌, subst, inl, inr, arith, length-set, Bor}
+use Rattle.std.proofs.lemmas.Bool.{cases_Bool, and_parts, and_from, and_right, or_left, or_right, or_from, eqb-true, eq-eqb, ne_eqb, lt-ltb, le-ltb, true≢false}
 use Rattle.tables.specs.Lists.{first_that}
 use Rattle.tables.specs.Rows.{Absent, First, Apart, Sole, AllFree, NoneFree, FirstFree}
 use Rattle.tables.specs.Tables.{Takes, Full, Frees}
@@ -9,7 +9,7 @@ use Rattle.tables.proofs.Found as found
 use Rattle.tables.proofs.Found.{absent_none, first_some, takes_here, takes_other, takes_size, frees_here, frees_other, frees_size, used, none_used, all_used, some_free, zero_used}
 use Rattle.stores.specs.declared.context.Context.{Context}
 use Rattle.stores.specs.Contexts.{pair_fits, fits, is_of, lookup, others_of, lowest_emergency, emergency_at, Lowest}
-use Rattle.stores.specs.Stores.{Laws, Stored, Same, Puts, Removed, Removes}
+use Rattle.stores.specs.Stores.{Laws, Puts, Removes}
 use Rattle.stores.proofs.Questions.{found_fits, found_pair, count_others, lowest_other}
 use Rattle.stores.proofs.Lowests.{lowest_is}
 use Rattle.flat.specs.declared.context_row.ContextRow.{ContextRow}

@@ -1,12 +1,12 @@
 -- What every store keeps to, of rows.
 use Rattle.std.proofs.Common.{◌≡◌, ℕ, ◌<◌, Bool, true, false, ◌&&◌, ◌||◌, eqb, ◌⊎◌, List, [], length, is_some, Some, None, Decides, Option, sym, refl, ap, ◌∙◌, inl, inr, arith}
-use Rattle.std.proofs.lemmas.Bool.{cases_Bool, and_parts, and_from, or_left, or_right, or_from, eqb-true, eq-eqb, ne_eqb, true≢false, false≢true}
+use Rattle.std.proofs.lemmas.Bool.{cases_Bool, and_parts, and_from, or_left, or_right, or_from, eq-eqb, ne_eqb, true≢false, false≢true}
 use Rattle.tables.specs.Lists.{first_that}
 use Rattle.tables.specs.Rows.{Apart, Sole, AllFree}
-use Rattle.tables.proofs.Lists.{none_passes, first_passes, passes_at}
+use Rattle.tables.proofs.Lists.{none_passes, first_passes}
 use Rattle.tables.proofs.Found.{absent_none, first_some, apart}
 use Rattle.stores.specs.declared.context.Context.{Context}
-use Rattle.stores.specs.Contexts.{pair_fits, fits, is_of, lookup}
+use Rattle.stores.specs.Contexts.{pair_fits, fits, lookup}
 use Rattle.stores.proofs.Questions.{fits_found}
 use Rattle.stores.specs.Stores.{Laws}
 use Rattle.grid.specs.declared.ue_row.UeRow.{UeRow}

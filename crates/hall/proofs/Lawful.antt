@@ -1,12 +1,11 @@
 -- Octets that are written behind `read` are read.
-use Rattle.std.proofs.Common.{◌≡◌, ℕ, ◌/◌, ◌%◌, ◌<◌, false, cond, eqb, List, [], ◌∷◌, ◌++◌, length, Some, codes, Option, sym, refl, ap, ◌∙◌, arith}
+use Rattle.std.proofs.Common.{◌≡◌, ℕ, ◌/◌, ◌%◌, ◌<◌, false, eqb, List, [], ◌∷◌, ◌++◌, length, Some, codes, Option, refl, ap, ◌∙◌, arith}
 use Rattle.std.specs.Option.{option_map}
 use Rattle.std.specs.List.{flat_map, AllByRecursion as All}
 use Rattle.std.proofs.lemmas.Bool.{and_right, cond-false, or_from}
 use Rattle.std.proofs.lemmas.Bool.Decides.{nat_tests}
 use Rattle.nas.specs.Uplinks as uplinks
 use Rattle.printing.specs.Octets.{digit_text, octet_text, octets_text}
-use Rattle.scenario.specs.Octets.{octets_in}
 use Rattle.scenario.specs.Words.{words, Word}
 use Rattle.scenario.proofs.Cuts.{words_back}
 use Rattle.scenario.proofs.Pairs.{octets_back}

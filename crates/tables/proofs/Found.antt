@@ -1,5 +1,5 @@
 -- What a table's calls do to its rows, told by tests: the first row that passes, and how many are in use.
-use Rattle.std.proofs.Common.{◌≡◌, ℕ, zero, suc, ◌+◌, ◌<◌, ◌≤◌, Bool, true, false, cond, ◌⊎◌, List, [], ◌∷◌, length, get_or, set, is_some, Some, None, Option, sym, refl, ap, ◌∙◌, inl, inr, zero-lt-suc, arith}
+use Rattle.std.proofs.Common.{◌≡◌, ℕ, zero, suc, ◌+◌, ◌<◌, ◌≤◌, Bool, true, false, cond, ◌⊎◌, List, [], ◌∷◌, length, get_or, set, is_some, Some, None, sym, refl, ap, ◌∙◌, inl, inr, zero-lt-suc, arith}
 use Rattle.std.proofs.lemmas.Bool.{true≢false}
 use Rattle.tables.specs.Lists.{first_that, sum_of}
 use Rattle.tables.specs.Rows.{Held, Absent, First, Apart, Sole, AllFree, NoneFree, FirstFree}

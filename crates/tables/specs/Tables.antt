@@ -1,5 +1,5 @@
 -- What the calls of a table do to its rows.
-use Rattle.std.specs.Prelude.{◌≡◌, ℕ, ◌<◌, Bool, true, false, ◌⊎◌, List, length, MatchBool, Option, MatchOption, slice_index_or, slice_set}
+use Rattle.std.specs.Prelude.{◌≡◌, ℕ, Bool, true, ◌⊎◌, List, MatchBool, Option, MatchOption, slice_index_or, slice_set}
 use Rattle.std.specs.Borrow.{Bor}
 use Rattle.tables.specs.Rows.{Absent, First, FirstFree, NoneFree}
 

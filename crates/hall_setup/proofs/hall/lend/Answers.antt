@@ -1,4 +1,4 @@
-use Rattle.std.proofs.Common.{◌≡◌, ◌<◌, [], ◌∷◌, ◌++◌, map, length, get_or, take, vec_items, sym, ap, ◌∙◌, arith}
+use Rattle.std.proofs.Common.{map, vec_items, ap, ◌∙◌, arith}
 use Rattle.std.proofs.lemmas.List.{take_all, length-map}
 use Rattle.hall_setup.proofs.Named.{lent_more}
 use Rattle.hall_setup.proofs.hall.lend.Goals as goal
