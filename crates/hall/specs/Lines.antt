@@ -1,7 +1,7 @@
 -- What a line of a scenario asks for, and what it prints.
 use Rattle.std.specs.Prelude.{◌≡◌, ℕ, ◌-◌, ◌<◌, Bool, cond, ◌||◌, ◌⊎◌, List, [], ◌∷◌, ◌++◌, length, Some, None, Ok, Err, codes, decimal, Option, Result, ◌==◌, ◌≢◌, slice_index}
 use Rattle.std.specs.Option.{option_map, unwrap_or}
-use Rattle.std.specs.List.{AllByRecursion as All}
+use Rattle.std.specs.List.{AllByRecursion}
 use Rattle.std.specs.Str.{bytes_eq}
 use Rattle.nas.specs.Uplinks as uplinks
 use Rattle.nas.specs.Uplinks.{Message}
@@ -66,7 +66,7 @@ printed number line = cond (silent line) None (Some (answer_line number (command
 -- Octets written behind `read` are the octets that are read, whatever they are.
 abbrev pub OctetsRead : List ℕ → Option (List ℕ) → Type 0
 OctetsRead line o =
-    (xs : List ℕ) → All (λ x. x < 256) xs → line ≡ codes "read " ++ octets_text xs → o ≡ Some (read_line (uplinks.read xs))
+    (xs : List ℕ) → AllByRecursion (λ x. x < 256) xs → line ≡ codes "read " ++ octets_text xs → o ≡ Some (read_line (uplinks.read xs))
 
 -- the answer is the one that the definition gives, and keeps this law
 pub record Answers (number : ℕ) (line : List ℕ) (o : Option (List ℕ)) : Type 0 where

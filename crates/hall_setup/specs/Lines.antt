@@ -1,7 +1,7 @@
 -- What a line of a scenario asks for, and what it prints.
 use Rattle.std.specs.Prelude.{◌≡◌, ℕ, ◌-◌, ◌<◌, Bool, true, false, ◌||◌, ◌⊎◌, List, [], ◌∷◌, ◌++◌, length, Some, None, Ok, Err, codes, decimal, Option, Result, ◌==◌, ◌≢◌, slice_index}
 use Rattle.std.specs.Option.{unwrap_or}
-use Rattle.std.specs.List.{AllByRecursion as All}
+use Rattle.std.specs.List.{AllByRecursion}
 use Rattle.nas.specs.Uplinks as uplinks
 use Rattle.nas.specs.Uplinks.{Message}
 use Rattle.printing.specs.Octets.{octets_text}
@@ -59,7 +59,7 @@ silent line = begins_with 0x23 line || length (words line) == 0
 -- Octets written behind `read` are the octets that are read, whatever they are.
 abbrev pub OctetsRead : List ℕ → Option (List ℕ) → Type 0
 OctetsRead line o =
-    (xs : List ℕ) → All (λ x. x < 256) xs → line ≡ codes "read " ++ octets_text xs → o ≡ Some (read_line (uplinks.read xs))
+    (xs : List ℕ) → AllByRecursion (λ x. x < 256) xs → line ≡ codes "read " ++ octets_text xs → o ≡ Some (read_line (uplinks.read xs))
 
 -- what every answer o to the line of this number is
 pub record Answers (d : Option HallDirectory) (rows : List ControlRow) (number : ℕ) (line : List ℕ) (o : Option (List ℕ)) : Type 0 where

@@ -1,6 +1,6 @@
 -- Octets that are accepted are a message that a sender can put together.
 use Rattle.std.proofs.Common.{◌≡◌, ℕ, zero, suc, ◌+◌, ◌*◌, ◌/◌, ◌%◌, ◌<◌, ◌≤◌, Bool, true, false, cond, ltb, List, [], ◌∷◌, ◌++◌, length, take, drop, Some, None, Ok, Err, Option, Result, sym, refl, ap, ◌∙◌, subst, append_assoc, arith}
-use Rattle.std.specs.List.{flat_map, AllByRecursion as All}
+use Rattle.std.specs.List.{flat_map, AllByRecursion}
 use Rattle.std.proofs.ByRecursion.{All-drop, All-get_or}
 use Rattle.std.proofs.lemmas.List.{drop-drop, drop_more, get_or-drop, length-drop, length-take-le, take-append-drop}
 use Rattle.std.proofs.lemmas.Bool.{cond-true, ltb-false}
@@ -28,7 +28,7 @@ if_ok false n r x h = absurd (let z : ◌≡◌ {A = ℕ} 0 1 = cc in omega arit
 -- ---- one element
 
 -- the octets in front of the contents are those that a sender writes for their length
-field_read : (s t u : Bool) (xs : List ℕ) → All (λ x. x < 256) xs → (λ (k n : ℕ). k + n ≤ length xs → cond s [] (cond t (n ∷ []) (cond u (n / 256 ∷ n % 256 ∷ []) [])) ≡ take k xs) (cond s 0 (cond t 1 (cond u 2 0))) (cond s 1 (cond t (octet xs 0) (cond u (pair xs) 0)))
+field_read : (s t u : Bool) (xs : List ℕ) → AllByRecursion (λ x. x < 256) xs → (λ (k n : ℕ). k + n ≤ length xs → cond s [] (cond t (n ∷ []) (cond u (n / 256 ∷ n % 256 ∷ []) [])) ≡ take k xs) (cond s 0 (cond t 1 (cond u 2 0))) (cond s 1 (cond t (octet xs 0) (cond u (pair xs) 0)))
 field_read true t u xs small fits = refl
 field_read false true u [] small fits = absurd (omega arith)
 field_read false true u (x ∷ xs) small fits = refl
@@ -55,7 +55,7 @@ module _ (x : ℕ) (xs : List ℕ) (fits : octets_of_length x + contents_length 
     alone = λ big. held_length ∙ grind (arith, nat_tests);
   }
 
-  held_encoded : All (λ y. y < 256) xs → encoded (held x xs) ++ drop (octets_of_length x + contents_length x xs) xs ≡ x ∷ xs
+  held_encoded : AllByRecursion (λ y. y < 256) xs → encoded (held x xs) ++ drop (octets_of_length x + contents_length x xs) xs ≡ x ∷ xs
   held_encoded small =
       let k = octets_of_length x in
       let n = contents_length x xs in
@@ -102,13 +102,13 @@ none_fine kind good o none first is = absurd (let z : ◌≡◌ {A = ℕ} 0 1 = 
 -- the elements that xs is put together from, read where p is known
 record Walked (p : Parts) (xs : List ℕ) : Type 0 where
   es : List Ie
-  each : All Formed es
+  each : AllByRecursion Formed es
   is : xs ≡ flat_map encoded es
   slice : Fine s_nssai slice_length p.slice es
   dnn : Fine dnn_name dnn_length p.dnn es
 
 -- what the walk accepts, behind the k octets that it passes over
-walked : (k : ℕ) (p q : Parts) (xs : List ℕ) → k ≤ length xs → All (λ x. x < 256) xs → walk k p xs ≡ Ok q → Walked p (drop k xs)
+walked : (k : ℕ) (p q : Parts) (xs : List ℕ) → k ≤ length xs → AllByRecursion (λ x. x < 256) xs → walk k p xs ≡ Ok q → Walked p (drop k xs)
 unfolding walk
 walked zero p q [] fits small h = record {
   es = [];
@@ -140,7 +140,7 @@ record Headed (xs : List ℕ) (n : ℕ) : Type 0 where
   few : length (take n (drop 6 xs)) ≤ 2048
   is : xs ≡ framed (octet xs 1 / 16) (octet xs 3 / 16) (take n (drop 6 xs)) (drop (6 + n) xs)
 
-header_ok : (xs : List ℕ) (n : ℕ) → All (λ x. x < 256) xs → header xs ≡ Ok n → Headed xs n
+header_ok : (xs : List ℕ) (n : ℕ) → AllByRecursion (λ x. x < 256) xs → header xs ≡ Ok n → Headed xs n
 header_ok xs n small h =
     let fits : 6 + n ≤ length xs = grind (arith, nat_tests) in
     let some : 0 < n = grind (arith, nat_tests) in
@@ -163,7 +163,7 @@ header_ok xs n small h =
       is = cc (drop_more xs 0 0 (omega arith), drop_more xs 1 0 (omega arith), drop_more xs 2 0 (omega arith), drop_more xs 3 0 (omega arith), drop_more xs 4 0 (omega arith), drop_more xs 5 0 (omega arith));
     }
 
-pub only_messages : (xs : List ℕ) → All (λ x. x < 256) xs → (m : Message) → read xs ≡ Ok m → Composed xs
+pub only_messages : (xs : List ℕ) → AllByRecursion (λ x. x < 256) xs → (m : Message) → read xs ≡ Ok m → Composed xs
 only_messages xs small m h =
     let n = then_ok (header xs) _ m h in
     let head = header_ok xs n.0 small n.1 in

@@ -1,6 +1,6 @@
 -- A message that a sender puts together is read as the first element of each kind.
 use Rattle.std.proofs.Common.{◌≡◌, ℕ, zero, suc, ◌+◌, ◌/◌, ◌%◌, ◌<◌, ◌≤◌, Bool, true, false, cond, ltb, List, [], ◌∷◌, ◌++◌, length, take, drop, Some, None, Ok, Option, Result, sym, refl, ap, ◌∙◌, append_assoc, arith}
-use Rattle.std.specs.List.{flat_map, AllByRecursion as All}
+use Rattle.std.specs.List.{flat_map, AllByRecursion}
 use Rattle.std.specs.Option.{option_map}
 use Rattle.std.proofs.lemmas.List.{take_at, drop_at, drop-drop, length-append, length-take-le}
 use Rattle.std.proofs.lemmas.Bool.{ltb-false, cond-true, cond-false, or_left, or_right}
@@ -163,7 +163,7 @@ noted_one p e formed slice dnn =
     }
 
 -- the walk over encoded elements, whatever follows them
-pub walk_all : (p : Parts) (es : List Ie) (rest : List ℕ) → All Formed es → Fine s_nssai slice_length p.slice es → Fine dnn_name dnn_length p.dnn es → walk 0 p (flat_map encoded es ++ rest) ≡ walk 0 (with_all p es) rest
+pub walk_all : (p : Parts) (es : List Ie) (rest : List ℕ) → AllByRecursion Formed es → Fine s_nssai slice_length p.slice es → Fine dnn_name dnn_length p.dnn es → walk 0 p (flat_map encoded es ++ rest) ≡ walk 0 (with_all p es) rest
 walk_all p [] rest formed slice dnn =
     (λ i. walk 0 (record { session = sym (else_none p.session) i; old = sym (else_none p.old) i; request = sym (else_none p.request) i; slice = sym (else_none p.slice) i; dnn = sym (else_none p.dnn) i }) rest)
 walk_all p (e ∷ es) rest formed slice dnn =

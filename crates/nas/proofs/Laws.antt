@@ -1,6 +1,6 @@
 -- The laws of the reader: what it makes of whole messages, and of messages that were cut short.
 use Rattle.std.proofs.Common.{◌≡◌, ℕ, zero, suc, ◌+◌, ◌-◌, ◌*◌, ◌/◌, ◌%◌, ◌<◌, ◌≤◌, Bool, true, false, cond, List, [], ◌∷◌, ◌++◌, length, take, drop, Some, Ok, Result, sym, refl, ap, ◌∙◌, append_assoc, append-nil, arith}
-use Rattle.std.specs.List.{flat_map, AllByRecursion as All}
+use Rattle.std.specs.List.{flat_map, AllByRecursion}
 use Rattle.std.proofs.lemmas.List.{take_at, drop_at, drop-drop, length-append, take-append-le, length-take-le}
 use Rattle.std.proofs.lemmas.Bool.Decides.{nat_tests}
 use Rattle.codes.specs.declared.refusal.Refusal.TheVariants.{Overrun}
@@ -67,7 +67,7 @@ joined_append : (xs ys : List Ie) → flat_map encoded (xs ++ ys) ≡ flat_map e
 joined_append [] ys = refl
 joined_append (x ∷ xs) ys = ap (λ l. encoded x ++ l) (joined_append xs ys) ∙ sym (append_assoc (encoded x) (flat_map encoded xs) (flat_map encoded ys))
 
-all_split : (xs : List Ie) (e : Ie) (ys : List Ie) → All Formed (xs ++ e ∷ ys) → All Formed xs × Formed e
+all_split : (xs : List Ie) (e : Ie) (ys : List Ie) → AllByRecursion Formed (xs ++ e ∷ ys) → AllByRecursion Formed xs × Formed e
 all_split [] e ys h = (tt, h.0)
 all_split (x ∷ xs) e ys h = let m = all_split xs e ys h.1 in ((h.0, m.0), m.1)
 

@@ -1,6 +1,6 @@
 -- Uplink messages as a sender puts them together, and what a reader has to make of them.
 use Rattle.std.specs.Prelude.{◌≡◌, ℕ, ◌+◌, ◌*◌, ◌/◌, ◌%◌, ◌<◌, ◌≤◌, Bool, true, cond, List, [], ◌∷◌, ◌++◌, length, take, Some, None, Ok, Option, Result, nat_lt}
-use Rattle.std.specs.List.{flat_map, AllByRecursion as All}
+use Rattle.std.specs.List.{flat_map, AllByRecursion}
 use Rattle.std.specs.Option.{option_map}
 use Rattle.codes.specs.declared.refusal.Refusal.TheVariants.{Overrun}
 use Rattle.nas.specs.Elements.{octet, session_kind}
@@ -49,7 +49,7 @@ firsts es = record {
 pub record WellFormed (payload : List ℕ) (es : List Ie) : Type 0 where
   pub some : 0 < length payload
   pub few : length payload ≤ 2048
-  pub each : All Formed es
+  pub each : AllByRecursion Formed es
   pub slice : (e : Ie) → first_of s_nssai es ≡ Some e → slice_length (length e.contents) ≡ true
   pub dnn : (e : Ie) → first_of dnn_name es ≡ Some e → dnn_length (length e.contents) ≡ true
 
@@ -91,7 +91,7 @@ CutInElement xs r =
 
 -- Only well-formed messages are accepted.
 abbrev pub OnlyMessages : List ℕ → Result Message ℕ → Type 0
-OnlyMessages xs r = All (λ x. x < 256) xs → (m : Message) → r ≡ Ok m → Composed xs
+OnlyMessages xs r = AllByRecursion (λ x. x < 256) xs → (m : Message) → r ≡ Ok m → Composed xs
 
 -- the answer is the one that the definition gives, and keeps these laws
 pub record Reads (xs : List ℕ) (r : Result Message ℕ) : Type 0 where

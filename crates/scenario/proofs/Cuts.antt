@@ -1,6 +1,6 @@
 -- A line is cut into its words at the spaces.
 use Rattle.std.proofs.Common.{◌≡◌, ℕ, ◌+◌, ◌-◌, ◌<◌, ◌≤◌, List, [], ◌∷◌, ◌++◌, map, length, get_or, take, drop, sym, refl, ap, ◌∙◌, subst, append_assoc, append-nil, arith, Bor}
-use Rattle.std.specs.List.{between, AllByRecursion as All}
+use Rattle.std.specs.List.{between, AllByRecursion}
 use Rattle.std.proofs.lemmas.List.Edits.{length-between, between_more}
 use Rattle.std.proofs.lemmas.List.{drop_more, drop_all, map_push}
 use Rattle.std.proofs.lemmas.Bool.{cond-true, cond-false, eq-eqb, ne_eqb}
@@ -10,19 +10,19 @@ kept : (w : List ℕ) (ws : List (List ℕ)) → 0 < length w → word_before w 
 kept [] ws h = absurd (omega arith)
 kept (x ∷ w) ws h = refl
 
-run_on : (w v rest : List ℕ) → All (λ x. x ≡ 0x20 → ⊥) v → words_after w (v ++ rest) ≡ words_after (w ++ v) rest
+run_on : (w v rest : List ℕ) → AllByRecursion (λ x. x ≡ 0x20 → ⊥) v → words_after w (v ++ rest) ≡ words_after (w ++ v) rest
 run_on w [] rest h = ap (λ l. words_after l rest) (sym (append-nil w))
 run_on w (x ∷ v) rest h =
     cond-false _ _ _ (ne_eqb x 0x20 h.0) ∙ run_on (w ++ x ∷ []) v rest h.1 ∙ ap (λ l. words_after l rest) (append_assoc w (x ∷ []) v)
 
 -- words with one space between them are the words of that line
-pub words_back : (ws : List (List ℕ)) → All Word ws → words (spaced ws) ≡ ws
+pub words_back : (ws : List (List ℕ)) → AllByRecursion Word ws → words (spaced ws) ≡ ws
 words_back [] h = refl
 words_back (w ∷ []) h = ap words (sym (append-nil w)) ∙ run_on [] w [] h.0.1 ∙ kept w [] h.0.0
 words_back (w ∷ v ∷ ws) h =
     run_on [] w (0x20 ∷ spaced (v ∷ ws)) h.0.1 ∙ kept w _ h.0.0 ∙ ap (λ l. w ∷ l) (words_back (v ∷ ws) h.1)
 
-pub words_law : {line : List ℕ} {found : List (List ℕ)} → found ≡ words line → (ws : List (List ℕ)) → All Word ws → line ≡ spaced ws → found ≡ ws
+pub words_law : {line : List ℕ} {found : List (List ℕ)} → found ≡ words line → (ws : List (List ℕ)) → AllByRecursion Word ws → line ≡ spaced ws → found ≡ ws
 words_law v ws h e = v ∙ ap words e ∙ words_back ws h
 
 -- one slice more

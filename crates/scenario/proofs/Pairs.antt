@@ -1,7 +1,7 @@
 -- Octets are read from pairs of digits, and from what is written of them.
 use Rattle.std.proofs.Common.{◌≡◌, ℕ, ◌+◌, ◌*◌, ◌/◌, ◌%◌, ◌<◌, ◌⊎◌, List, [], ◌∷◌, ◌++◌, length, get_or, Some, None, Option, sym, refl, ap, ◌∙◌, ⊎_elim, append_assoc, append-nil, arith}
 use Rattle.std.specs.Option.{option_map}
-use Rattle.std.specs.List.{flat_map, AllByRecursion as All}
+use Rattle.std.specs.List.{flat_map, AllByRecursion}
 use Rattle.std.proofs.lemmas.Bool.{cond-false, ne_eqb}
 use Rattle.std.proofs.lemmas.Bool.Decides.{nat_tests}
 use Rattle.printing.specs.Octets.{digit_text, octet_text, octets_text}
@@ -16,16 +16,16 @@ octet_back x h =
     let e : x / 16 * 16 + x % 16 ≡ x = omega arith in
     (λ i. octet_of (digit_back (x / 16) (omega (arith, h)) i) (digit_back (x % 16) (omega arith) i)) ∙ ap Some e
 
-pairs_back : (xs : List ℕ) → All (λ x. x < 256) xs → pairs_in (flat_map octet_text xs) ≡ Some xs
+pairs_back : (xs : List ℕ) → AllByRecursion (λ x. x < 256) xs → pairs_in (flat_map octet_text xs) ≡ Some xs
 pairs_back [] h = refl
 pairs_back (x ∷ xs) h = (λ i. octet_before (octet_back x h.0 i) (pairs_back xs h.1 i))
 
 -- what is written of octets reads as those octets
-pub octets_back : (xs : List ℕ) → All (λ x. x < 256) xs → octets_in (octets_text xs) ≡ Some xs
+pub octets_back : (xs : List ℕ) → AllByRecursion (λ x. x < 256) xs → octets_in (octets_text xs) ≡ Some xs
 octets_back [] h = refl
 octets_back (x ∷ xs) h = pairs_back (x ∷ xs) h
 
-pub octets_law : {w : List ℕ} {o : Option (List ℕ)} → o ≡ octets_in w → (xs : List ℕ) → All (λ x. x < 256) xs → w ≡ octets_text xs → o ≡ Some xs
+pub octets_law : {w : List ℕ} {o : Option (List ℕ)} → o ≡ octets_in w → (xs : List ℕ) → AllByRecursion (λ x. x < 256) xs → w ≡ octets_text xs → o ≡ Some xs
 octets_law v xs h e = v ∙ ap octets_in e ∙ octets_back xs h
 
 no_rest : (o : Option ℕ) → octet_before o None ≡ None

@@ -1,7 +1,7 @@
 -- The words of a line.
 use Rattle.std.specs.Prelude.{ℕ, ◌<◌, Bool, cond, ◌&&◌, List, [], ◌∷◌, ◌++◌, length, ◌==◌, ◌≢◌, nat_lt, slice_index}
 use Rattle.std.specs.Borrow.{Bor}
-use Rattle.std.specs.List.{AllByRecursion as All}
+use Rattle.std.specs.List.{AllByRecursion}
 
 -- what a slice of octets holds
 abbrev pub text : Bor (List ℕ) → List ℕ
@@ -26,7 +26,7 @@ words xs = words_after [] xs
 
 -- one octet or more, and no space
 abbrev pub Word : List ℕ → Type 0
-Word w = (0 < length w) × All (λ x. x ≢ 0x20) w
+Word w = (0 < length w) × AllByRecursion (λ x. x ≢ 0x20) w
 
 -- words with one space between each two
 abbrev pub spaced : List (List ℕ) → List ℕ

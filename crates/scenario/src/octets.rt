@@ -1,7 +1,7 @@
 // A word of octets: two hexadecimal digits each, or `-` where there are none.
 ghost use Rattle.std.specs.Prelude.{◌≡◌, ℕ, ◌<◌, List, IfOk, Some, vec_items};
 ghost use Rattle.std.specs.Option.{option_map};
-ghost use Rattle.std.specs.List.{AllByRecursion as All};
+ghost use Rattle.std.specs.List.{AllByRecursion};
 ghost use Rattle.printing.specs.Octets.{octets_text};
 ghost use Rattle.scenario.specs.Octets.{digit_in, octet_of, octet_in, octets_in};
 
@@ -41,7 +41,7 @@ pub fn parse_octet(word: &[u8]) -> Option<u8>
 // `None` where the word is neither `-` nor pairs of digits.
 pub fn parse_octets(heap: Global, word: &[u8]) -> Result<Option<Vec<u8>>, AllocError>
     ensures value { IfOk result (λ o. option_map vec_items o ≡ octets_in word.now) }
-    ensures reads_back { IfOk result (λ o. (xs : List ℕ) → All (λ x. x < 256) xs → word.now ≡ octets_text xs → option_map vec_items o ≡ Some xs) }
+    ensures reads_back { IfOk result (λ o. (xs : List ℕ) → AllByRecursion (λ x. x < 256) xs → word.now ≡ octets_text xs → option_map vec_items o ≡ Some xs) }
 {
     let mut octets = Vec::new(heap);
     if word == b"-".as_slice() {

@@ -1,6 +1,6 @@
 // The words of a line.
 ghost use Rattle.std.specs.Prelude.{◌≡◌, ℕ, List, map, IfOk};
-ghost use Rattle.std.specs.List.{AllByRecursion as All};
+ghost use Rattle.std.specs.List.{AllByRecursion};
 ghost use Rattle.scenario.specs.Words.{text, begins_with, words, Word, spaced};
 
 use std::alloc::{AllocError, Global};
@@ -16,7 +16,7 @@ pub fn begins_with(text: &[u8], octet: u8) -> bool
 // The words borrow the line, so only the list of them is allocated.
 pub fn split_words<'a>(heap: Global, line: &'a [u8]) -> Result<Vec<&'a [u8]>, AllocError>
     ensures value { IfOk result (λ v. map text v.items ≡ words line.now) }
-    ensures reads_back { IfOk result (λ v. (ws : List (List ℕ)) → All Word ws → line.now ≡ spaced ws → map text v.items ≡ ws) }
+    ensures reads_back { IfOk result (λ v. (ws : List (List ℕ)) → AllByRecursion Word ws → line.now ≡ spaced ws → map text v.items ≡ ws) }
 {
     let mut found = Vec::new(heap);
     let mut start = 0;
