@@ -4,6 +4,8 @@ hyphens become snake case, or camel case where they begin with a capital.
 
 usage: python3 tools/respell.py [FOLDER] [--list]
 
+It was written for the text as the kit's own script leaves it, and has done its work there; it is no tool for later text.
+
 Only names that the repository defines change: in specs/, in the lemma files of proofs/, as fields of records there, as
 lemmas inside a function's proof folder, and as an alias of an import. What Rattle itself asks for (goals, invariants,
 measures), what std names, and every name, comment and string of src/ stay. --list prints each name with its new spelling,

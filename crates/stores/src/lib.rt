@@ -1,4 +1,4 @@
-// Stores of the routing contexts of PDU sessions: what a store means, and two makes of it.
+// Stores of the routing contexts of PDU sessions: what a store means, and what holds of every one.
 #![tactic(auto)]
 
 mod context;
