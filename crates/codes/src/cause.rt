@@ -19,11 +19,11 @@ pub enum Cause {
     DnnNotSupported,
 }
 
-impl Cause {
-    pub fn number(self) -> u8
-        ensures { result ≡ cause_number self }
-    {
-        match self {
+impl From<Cause> for u8 {
+    ghost from_gives = { λ c n. n ≡ cause_number c };
+
+    fn from(cause: Cause) -> u8 {
+        match cause {
             Cause::Congestion(_) => 22,
             Cause::MaximumSessions => 65,
             Cause::SliceAndDnnCongestion(_) => 67,
@@ -32,7 +32,9 @@ impl Cause {
             Cause::DnnNotSupported => 91,
         }
     }
+}
 
+impl Cause {
     // The back-off octet, where the cause has one.
     pub fn back_off(self) -> Option<u8>
         ensures { result ≡ back_off_octet self }

@@ -6,9 +6,11 @@ mod ids;
 mod refusal;
 mod request_type;
 mod setup_error;
+mod slice_dnn;
 
 pub use cause::Cause;
 pub use ids::{DnnNumber, SessionId, SliceCode, SmfId, UeNumber};
 pub use refusal::Refusal;
 pub use request_type::RequestType;
 pub use setup_error::SetupError;
+pub use slice_dnn::SliceDnn;

@@ -46,12 +46,12 @@ pub enum Refusal {
     ControlFull,
 }
 
-impl Refusal {
-    // The number that the host gets.
-    pub fn number(self) -> u8
-        ensures { result ≡ refusal_number self }
-    {
-        match self {
+// The number that the host gets.
+impl From<Refusal> for u8 {
+    ghost from_gives = { λ e n. n ≡ refusal_number e };
+
+    fn from(refusal: Refusal) -> u8 {
+        match refusal {
             Refusal::RecordBounds => 1,
             Refusal::PoolLength => 2,
             Refusal::Overrun => 3,

@@ -1,7 +1,8 @@
 // What a request asks for.
 ghost use Rattle.std.specs.Prelude.{◌≡◌};
-ghost use Rattle.std.specs.Option.{option_map};
-ghost use Rattle.codes.specs.RequestTypes.{request_number, request_in};
+ghost use Rattle.codes.specs.RequestTypes.{request_number, NumberedAs};
+
+use crate::refusal::Refusal;
 
 #[derive(Clone, Copy, Debug, PartialEq, Eq)]
 pub enum RequestType {
@@ -17,11 +18,11 @@ pub enum RequestType {
     Modification,
 }
 
-impl RequestType {
-    pub fn number(self) -> u8
-        ensures { result ≡ request_number self }
-    {
-        match self {
+impl From<RequestType> for u8 {
+    ghost from_gives = { λ t n. n ≡ request_number t };
+
+    fn from(request_type: RequestType) -> u8 {
+        match request_type {
             RequestType::Initial => 1,
             RequestType::Existing => 2,
             RequestType::InitialEmergency => 3,
@@ -29,18 +30,22 @@ impl RequestType {
             RequestType::Modification => 5,
         }
     }
+}
 
-    // The request type of this number, if it has one.
-    pub fn from_number(number: u8) -> Option<RequestType>
-        ensures { option_map request_number result ≡ request_in number }
-    {
+// A number that is no request type's is refused as an unknown request.
+impl TryFrom<u8> for RequestType {
+    type Error = Refusal;
+
+    ghost try_from_gives = { NumberedAs };
+
+    fn try_from(number: u8) -> Result<RequestType, Refusal> {
         match number {
-            1 => Some(RequestType::Initial),
-            2 => Some(RequestType::Existing),
-            3 => Some(RequestType::InitialEmergency),
-            4 => Some(RequestType::ExistingEmergency),
-            5 => Some(RequestType::Modification),
-            _ => None,
+            1 => Ok(RequestType::Initial),
+            2 => Ok(RequestType::Existing),
+            3 => Ok(RequestType::InitialEmergency),
+            4 => Ok(RequestType::ExistingEmergency),
+            5 => Ok(RequestType::Modification),
+            _ => Err(Refusal::UnknownRequest),
         }
     }
 }

@@ -1,6 +1,7 @@
 -- The rows of a control table, and the lines in them.
 use Rattle.std.specs.Prelude.{ℕ, Bool, false, cond, not, ◌&&◌, List, is_some, Some, None, Option, nat_lt}
-use Rattle.tables.specs.Lists.{first_that, sum_of}
+use Rattle.std.specs.List.{find}
+use Rattle.tables.specs.Lists.{sum_of}
 use Rattle.control.specs.declared.control_key.ControlKey.{ControlKey}
 use Rattle.control.specs.declared.control_key.ControlKey.TheVariants.{Dnn}
 use Rattle.control.specs.declared.control_line.ControlLine.{ControlLine}
@@ -32,7 +33,7 @@ octet_in (Some x) = octet_of x.held
 
 -- the back-off octet of the line of this key
 abbrev pub back_off_of : List ControlRow → ControlKey → Option ℕ
-back_off_of xs k = octet_in (first_that (row_has k) xs)
+back_off_of xs k = octet_in (find (row_has k) xs)
 
 -- how many lines there are
 abbrev pub line_count : List ControlRow → ℕ

@@ -1,10 +1,13 @@
 // What a control line is about. Its kind says which of slice and DNN it names.
-ghost use Rattle.std.specs.Prelude.{◌≡◌, Decides};
-ghost use Rattle.control.specs.Keys.{key_in, same_key};
+ghost use Rattle.std.specs.Prelude.{◌≡◌};
+ghost use Rattle.std.specs.Option.{ok_or};
+ghost use Rattle.codes.specs.declared.refusal.Refusal.TheVariants.{ControlKind};
+ghost use Rattle.control.specs.Keys.{key_in};
 
-use codes::{DnnNumber, SliceCode};
+use crate::control_numbers::ControlNumbers;
+use codes::{DnnNumber, Refusal, SliceCode};
 
-#[derive(Clone, Copy)]
+#[derive(Clone, Copy, Debug, PartialEq, Eq)]
 pub enum ControlKey {
     /// Kind 1.
     Dnn(DnnNumber),
@@ -14,27 +17,18 @@ pub enum ControlKey {
     Slice(SliceCode),
 }
 
-impl ControlKey {
-    // The key of this kind; what the kind does not name is not looked at.
-    pub fn from_numbers(kind: u8, slice: SliceCode, dnn: DnnNumber) -> Option<ControlKey>
-        ensures { result ≡ key_in kind slice dnn }
-    {
-        match kind {
-            1 => Some(ControlKey::Dnn(dnn)),
-            2 => Some(ControlKey::SliceAndDnn(slice, dnn)),
-            3 => Some(ControlKey::Slice(slice)),
-            _ => None,
-        }
-    }
+// What the kind does not name is not looked at.
+impl TryFrom<ControlNumbers> for ControlKey {
+    type Error = Refusal;
 
-    pub(crate) fn is(self, other: ControlKey) -> bool
-        ensures { Decides result (self ≡ other) }
-    {
-        match (self, other) {
-            (ControlKey::Dnn(a), ControlKey::Dnn(b)) => a == b,
-            (ControlKey::SliceAndDnn(s, a), ControlKey::SliceAndDnn(t, b)) => s == t && a == b,
-            (ControlKey::Slice(s), ControlKey::Slice(t)) => s == t,
-            _ => false,
+    ghost try_from_gives = { λ n r. r ≡ ok_or (key_in n.kind n.slice n.dnn) ControlKind };
+
+    fn try_from(numbers: ControlNumbers) -> Result<ControlKey, Refusal> {
+        match numbers.kind {
+            1 => Ok(ControlKey::Dnn(numbers.dnn)),
+            2 => Ok(ControlKey::SliceAndDnn(numbers.slice, numbers.dnn)),
+            3 => Ok(ControlKey::Slice(numbers.slice)),
+            _ => Err(Refusal::ControlKind),
         }
     }
 }

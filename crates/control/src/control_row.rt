@@ -5,6 +5,7 @@ ghost use Rattle.control.specs.Octets.{Holds, octet_of};
 use crate::control_key::ControlKey;
 use crate::control_line::ControlLine;
 
+// No one type with the flat store's row, since what is held keeps another invariant there.
 #[derive(Clone, Copy)]
 pub struct ControlRow {
     pub(crate) held: Option<ControlLine>,
@@ -31,9 +32,6 @@ impl ControlRow {
     pub(crate) fn back_off(&self) -> Option<u8>
         ensures { result ≡ octet_of self.now.held }
     {
-        match self.held {
-            Some(line) => Some(line.back_off),
-            None => None,
-        }
+        self.held.map(|line| line.back_off)
     }
 }

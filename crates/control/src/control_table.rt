@@ -1,91 +1,70 @@
 // The control lines of a core, at most one for each key, in rows that are lent to it.
-ghost use Rattle.std.specs.Prelude.{◌≡◌, true, false, length, MatchResult};
+ghost use Rattle.std.specs.Prelude.{◌≡◌, Ok, Err, if◌then◌else◌, true, false, length, MatchResult};
 ghost use Rattle.codes.specs.declared.refusal.Refusal.TheVariants.{Opening};
-ghost use Rattle.tables.specs.Rows.{Sole};
-ghost use Rattle.tables.specs.Tables.{Gets};
 ghost use Rattle.control.specs.Keys.{key_in};
-ghost use Rattle.control.specs.Lines.{is_free, key_of, back_off_of, rows_fit};
+ghost use Rattle.control.specs.Lines.{back_off_of, rows_fit};
 ghost use Rattle.control.specs.Controls.{Empty, Setting, Clearing};
 
 use crate::control_key::ControlKey;
+use crate::control_numbers::ControlNumbers;
 use crate::control_row::ControlRow;
-use codes::{DnnNumber, Refusal, SliceCode};
+use codes::Refusal;
 use tables::Table;
 
 #[derive(Drop)]
 pub struct ControlTable<'a> {
     table: Table<'a, ControlRow>,
-    ghost once: { Sole is_free key_of table.rows.now },
-}
-
-// Whether a control table can have so many rows.
-fn is_row_count(count: usize) -> bool
-    ensures { result ≡ rows_fit count }
-{
-    count >= 1 && count <= 64
-}
-
-// What was not done is refused.
-fn done_or(refusal: Refusal, is_done: bool) -> Result<(), Refusal>
-    ensures { MatchResult result (λ _. is_done ≡ true) (λ e. (is_done ≡ false) × (e ≡ refusal)) }
-{
-    if is_done { Ok(()) } else { Err(refusal) }
 }
 
 impl<'a> ControlTable<'a> {
+    // Whether a table can have so many rows. The bounds are its own, and `contains` is what it shares with other makes.
+    pub fn check_rows(count: usize) -> Result<(), Refusal>
+        ensures { result ≡ (if rows_fit count then Ok tt else Err Opening) }
+    {
+        if !(1..=64).contains(&count) {
+            return Err(Refusal::Opening);
+        }
+        Ok(())
+    }
+
     // An empty table over 1 to 64 rows.
+    #[tactic(auto, using(crate::proofs::Keyed::free_back_off, crate::proofs::Keyed::free_count))]
     pub fn new(rows: &'a mut [ControlRow]) -> Result<ControlTable<'a>, Refusal>
         ensures { MatchResult result (λ t. (rows_fit (length rows.old) ≡ true) × (length t.table.rows.now ≡ length rows.old) × Empty t.table.rows.now) (λ e. (rows_fit (length rows.old) ≡ false) × (e ≡ Opening)) }
     {
-        if !is_row_count(rows.len()) {
-            return Err(Refusal::Opening);
-        }
-        let table = Table::new(rows);
-        Ok(ControlTable { table })
-    }
-
-    fn row(&self, key: ControlKey) -> Option<&ControlRow>
-        ensures { Gets is_free key_of key self.now.table.rows.now result }
-    {
-        self.table.find(&key)
+        ControlTable::check_rows(rows.len())?;
+        Ok(ControlTable {
+            table: Table::new(rows),
+        })
     }
 
     // The back-off octet of the line of this key.
+    #[tactic(auto, using(crate::proofs::Keyed::none_back_off, crate::proofs::Keyed::first_back_off))]
     pub fn back_off(&self, key: ControlKey) -> Option<u8>
         ensures { result ≡ back_off_of self.now.table.rows.now key }
     {
-        match self.row(key) {
-            Some(row) => row.back_off(),
-            None => None,
-        }
+        self.table.find(&key).and_then(|row| row.back_off())
     }
 
     // A line of this key: in the place of the one that there is, or one more.
-    pub fn set(
-        &mut self,
-        kind: u8,
-        slice: SliceCode,
-        dnn: DnnNumber,
-        back_off: u8,
-    ) -> Result<(), Refusal>
-        ensures { Setting (key_in kind slice dnn) back_off self.old.table.rows.now self.new.table.rows.now result }
+    pub fn set(&mut self, numbers: ControlNumbers, back_off: u8) -> Result<(), Refusal>
+        ensures { Setting (key_in numbers.kind numbers.slice numbers.dnn) back_off self.old.table.rows.now self.new.table.rows.now result }
     {
-        match ControlKey::from_numbers(kind, slice, dnn) {
-            Some(key) => done_or(
-                Refusal::ControlFull,
-                self.table.set(ControlRow::of(key, back_off)),
-            ),
-            None => Err(Refusal::ControlKind),
-        }
+        let key = ControlKey::try_from(numbers)?;
+        self.table
+            .set(ControlRow::of(key, back_off))
+            .map_err(|_| Refusal::ControlFull)
     }
 
     // Leaves no line of this key.
-    pub fn clear(&mut self, kind: u8, slice: SliceCode, dnn: DnnNumber) -> Result<(), Refusal>
-        ensures { Clearing (key_in kind slice dnn) self.old.table.rows.now self.new.table.rows.now result }
+    pub fn clear(&mut self, numbers: ControlNumbers) -> Result<(), Refusal>
+        ensures { Clearing (key_in numbers.kind numbers.slice numbers.dnn) self.old.table.rows.now self.new.table.rows.now result }
     {
-        match ControlKey::from_numbers(kind, slice, dnn) {
-            Some(key) => done_or(Refusal::ControlKind, self.table.remove(&key)),
-            None => Err(Refusal::ControlKind),
+        let key = ControlKey::try_from(numbers)?;
+        if self.table.remove(&key) {
+            Ok(())
+        } else {
+            Err(Refusal::ControlKind)
         }
     }
 }

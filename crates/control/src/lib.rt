@@ -3,10 +3,12 @@
 
 mod control_key;
 mod control_line;
+mod control_numbers;
 mod control_row;
 mod control_table;
 mod row_key;
 
 pub use control_key::ControlKey;
+pub use control_numbers::ControlNumbers;
 pub use control_row::ControlRow;
 pub use control_table::ControlTable;

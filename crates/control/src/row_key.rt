@@ -1,5 +1,5 @@
 // A control row is found by the key of its line.
-ghost use Rattle.std.specs.Prelude.{◌≡◌};
+ghost use Rattle.std.proofs.Common.{rules};
 ghost use Rattle.control.specs.Lines.{is_free, key_of};
 
 use crate::control_key::ControlKey;
@@ -17,18 +17,14 @@ impl Row for ControlRow {
         self.held.is_none()
     }
 
+    // A free row has a key as well, which nothing is found by: `Table::set` asks any row for one.
     fn key(&self) -> ControlKey {
-        match self.held {
-            Some(line) => line.key,
-            None => ControlKey::Dnn(0),
-        }
-    }
-
-    fn has_key(&self, key: &ControlKey) -> bool {
-        self.key().is(*key)
+        self.held.map_or(ControlKey::Dnn(0), |line| line.key)
     }
 
     fn clear(&mut self) {
         self.held = None;
     }
+
+    ghost exact = { Prim.search rules };
 }

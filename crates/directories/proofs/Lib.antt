@@ -1,8 +1,4 @@
-mod Found
 mod Firsts
 mod Lowests
 mod Rounds
-mod Named
 mod Joins
-mod Choosing
-mod Pushes

@@ -1,9 +1,10 @@
 pub mod Choices
 pub mod Meanings
-pub mod Searches
 pub mod Lines
 pub mod Additions
 pub mod Takings
 pub mod Sets
 pub mod Turns
 pub mod Turnings
+pub mod LineLaws
+pub mod SetLaws

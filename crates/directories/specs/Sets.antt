@@ -1,9 +1,9 @@
 -- The sets of a turning directory: whose they are, and who serves by them.
-use Rattle.std.specs.Prelude.{◌≡◌, ℕ, ◌-◌, ◌<◌, Bool, true, false, not, ◌&&◌, ◌||◌, List, [], length, get_or, ◌==◌, nat_le, nat_lt, slice_index_or}
+use Rattle.std.specs.Prelude.{◌≡◌, ℕ, ◌-◌, ◌<◌, Bool, true, false, not, ◌&&◌, ◌||◌, List, length, ◌==◌, nat_le, nat_lt, slice_index_or, slice_set, replicate, All, HoldsAt, AllPairs}
+use Rattle.std.specs.List.{list_any}
 use Rattle.directories.specs.declared.served_set.ServedSet.{ServedSet}
 use Rattle.directories.specs.declared.service_line.ServiceLine.{ServiceLine}
 use Rattle.directories.specs.Lines.{numbered, good_line}
-use Rattle.directories.specs.Searches.{some_of, all_of}
 
 -- by the set, its SMF serves slice s and DNN n
 abbrev pub set_for : ServedSet → ℕ → ℕ → Bool
@@ -13,40 +13,45 @@ abbrev pub set_serves : ServedSet → ℕ → ℕ → ℕ → Bool
 set_serves x s n m = set_for x s n && x.smf == m
 
 abbrev pub sets_serve : List ServedSet → ℕ → ℕ → ℕ → Bool
-sets_serve sets s n m = some_of (λ x. set_serves x s n m) sets
+sets_serve sets s n m = list_any (λ x. set_serves x s n m) sets
 
 -- the set is that of slice s and SMF m
 abbrev pub is_pair : ServedSet → ℕ → ℕ → Bool
 is_pair x s m = x.slice == s && x.smf == m
+
+-- the set with DNN n too
+abbrev pub with_dnn : ServedSet → ℕ → ServedSet
+with_dnn x n = record { slice = x.slice; smf = x.smf; numbers = slice_set x.numbers (n - 1) true }
+
+-- the set of the line's slice and SMF, with no DNN, and with the line's alone
+abbrev pub empty_of : ServiceLine → ServedSet
+empty_of l = record { slice = l.slice; smf = l.smf; numbers = replicate 64 false }
+
+abbrev pub set_of : ServiceLine → ServedSet
+set_of l = with_dnn (empty_of l) l.dnn
 
 -- the line is one of slice s and SMF m
 abbrev pub line_pair : ServiceLine → ℕ → ℕ → Bool
 line_pair l s m = l.slice == s && l.smf == m
 
 abbrev pub holds_pair : List ServedSet → ℕ → ℕ → Bool
-holds_pair sets s m = some_of (λ x. is_pair x s m) sets
+holds_pair sets s m = list_any (λ x. is_pair x s m) sets
 
--- what stands past the last set
-abbrev pub no_set : ServedSet
-no_set = record { slice = 0; smf = 0; numbers = [] }
-
+-- no set is of slice s and SMF m
 abbrev pub NoPair : List ServedSet → ℕ → ℕ → Type 0
-NoPair sets s m = (j : ℕ) → j < length sets → is_pair (slice_index_or sets j no_set) s m ≡ false
+NoPair sets s m = All (λ x. is_pair x s m ≡ false) sets
 
+-- set i is
 abbrev pub PairAt : List ServedSet → ℕ → ℕ → ℕ → Type 0
-PairAt sets s m i = (i < length sets) × (is_pair (slice_index_or sets i no_set) s m ≡ true)
+PairAt sets s m i = (i < length sets) × HoldsAt (λ x. is_pair x s m ≡ true) sets i
 
 -- no two sets are of the same slice and SMF
 abbrev pub Apart : List ServedSet → Type 0
-Apart sets =
-    (i j : ℕ) → (i < j) × (j < length sets) → is_pair (slice_index_or sets i no_set) (get_or sets j no_set).slice (get_or sets j no_set).smf ≡ false
+Apart sets = AllPairs (λ x y. is_pair x y.slice y.smf ≡ false) sets
 
 -- the set is not of SMF 0, and says of 64 DNNs whether they are served
 abbrev pub good_set : ServedSet → Bool
 good_set x = nat_lt 0 x.smf && length x.numbers == 64
-
-abbrev pub good_sets : List ServedSet → Bool
-good_sets sets = all_of good_set sets
 
 -- what a directory with these sets refuses: a bad line, and a 65th pair
 abbrev pub sets_refuse : List ServedSet → ServiceLine → Bool

@@ -3,8 +3,8 @@ ghost use Rattle.std.specs.Prelude.{◌≡◌, ℕ, Bool};
 ghost use Rattle.directories.specs.Choices.{Chosen};
 ghost use Rattle.directories.specs.Meanings.{Lawful};
 
-use crate::choice::Choice;
-use codes::{DnnNumber, SliceCode};
+use crate::no_smf::NoSmf;
+use codes::{SliceDnn, SmfId};
 
 pub trait Directory {
     // Whether it is open.
@@ -16,10 +16,12 @@ pub trait Directory {
     // Which SMF IDs it may take for a slice and a DNN number at its next choice.
     ghost takes: { Self → ℕ → ℕ → ℕ → Bool };
 
-    // Choosing may move the turn, and never changes what is open or who serves.
-    fn choose(&mut self, slice: SliceCode, dnn: DnnNumber) -> Choice
-        ensures choice { Chosen (opened self.old) (serves self.old slice dnn) (takes self.old slice dnn) result }
+    // An SMF that serves. Choosing may move the turn, and never changes what is open or who serves.
+    fn choose(&mut self, wanted: SliceDnn) -> Result<SmfId, NoSmf>
+        ensures choice { Chosen (opened self.old) (serves self.old wanted.slice wanted.dnn) (takes self.old wanted.slice wanted.dnn) result }
         ensures opening { opened self.new ≡ opened self.old }
-        ensures serving { (s n m : ℕ) → serves self.new s n m ≡ serves self.old s n m }
-        ensures lawful { Lawful (serves self.old) (takes self.old) };
+        ensures serving { (s n m : ℕ) → serves self.new s n m ≡ serves self.old s n m };
+
+    // What is so of each directory at any time.
+    ghost lawful: { (d : Self) → Lawful (serves d) (takes d) };
 }

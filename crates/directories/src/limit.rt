@@ -1,4 +1,4 @@
-// How much a directory holds.
+// How much a directory holds. A function and no type of its own: such a type would only hand a list's methods on, and the directories need none but this.
 ghost use Rattle.std.specs.Prelude.{MatchResult};
 ghost use Rattle.directories.specs.Additions.{Pushed, Unpushed};
 
@@ -9,10 +9,8 @@ pub(crate) fn push_within_limit<T: Drop>(items: &mut Vec<T>, item: T) -> Result<
     ensures { MatchResult result (λ _. Pushed items.old.items item items.new.items) (λ e. Unpushed items.old.items items.new.items e) }
 {
     if items.len() >= 64 {
-        return Err(SetupError::Refused(Refusal::Opening));
+        return Err(Refusal::Opening.into());
     }
-    if items.push(item).is_err() {
-        return Err(SetupError::OutOfMemory);
-    }
+    items.push(item)?;
     Ok(())
 }

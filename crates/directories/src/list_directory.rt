@@ -1,35 +1,25 @@
 // The list directory: up to 64 lines, of which the first that serves is taken. It is always open.
-ghost use Rattle.std.specs.Prelude.{◌≡◌, ℕ, ◌≤◌, true, [], vec_len, Decides, MatchOption, MatchResult};
+ghost use Rattle.std.specs.Prelude.{◌≡◌, ℕ, ◌≤◌, true, [], vec_len, MatchResult};
+ghost use Rattle.std.specs.List.{AllPass};
 ghost use Rattle.directories.specs.Additions.{Added, Unadded};
 ghost use Rattle.directories.specs.Choices.{Chosen};
-ghost use Rattle.directories.specs.Lines.{all_good, lines_serve, takes_first, NoneFor, First, FirstSmf};
-ghost use Rattle.directories.specs.Meanings.{Lawful, Sole};
+ghost use Rattle.directories.specs.Lines.{good_line, lines_serve, takes_first, FirstSmf};
+ghost use Rattle.directories.specs.LineLaws.{lines_lawful, takes_decides, first_sole};
 ghost use Rattle.directories.specs.Takings.{TakenFirst};
 
-use crate::choice::Choice;
 use crate::directory::Directory;
 use crate::limit::push_within_limit;
+use crate::no_smf::NoSmf;
 use crate::service_line::ServiceLine;
-use codes::{DnnNumber, Refusal, SetupError, SliceCode};
+use crate::takes_one::TakesOne;
+use codes::{Refusal, SetupError, SliceDnn, SmfId};
 use std::alloc::Global;
 
 #[derive(Drop)]
 pub struct ListDirectory {
     lines: Vec<ServiceLine>,
     ghost few: { vec_len lines ≤ 64 },
-    ghost good: { all_good lines.items ≡ true },
-}
-
-// Where the first line for the slice and DNN is.
-fn first_for(lines: &[ServiceLine], slice: SliceCode, dnn: DnnNumber) -> Option<usize>
-    ensures { MatchOption result (NoneFor lines.now slice dnn) (λ i. First lines.now slice dnn i) }
-{
-    for (i, line) in lines.iter().enumerate() {
-        if line.is_for(slice, dnn) {
-            return Some(i);
-        }
-    }
-    None
+    ghost good: { AllPass good_line lines.items },
 }
 
 impl ListDirectory {
@@ -37,8 +27,9 @@ impl ListDirectory {
     pub fn new(heap: Global) -> ListDirectory
         ensures { result.lines.items ≡ [] }
     {
-        let lines = Vec::new(heap);
-        ListDirectory { lines }
+        ListDirectory {
+            lines: Vec::new(heap),
+        }
     }
 
     // One more line, behind the others. It is checked before any memory is asked for.
@@ -46,7 +37,7 @@ impl ListDirectory {
         ensures { MatchResult result (λ _. Added self.old.lines.items line self.new.lines.items) (λ e. Unadded self.old.lines.items line self.new.lines.items e) }
     {
         if !line.is_good() {
-            return Err(SetupError::Refused(Refusal::Opening));
+            return Err(Refusal::Opening.into());
         }
         push_within_limit(&mut self.lines, line)
     }
@@ -59,19 +50,28 @@ impl Directory for ListDirectory {
 
     ghost takes = { λ d s n m. takes_first d.lines.items s n m };
 
-    fn choose(&mut self, slice: SliceCode, dnn: DnnNumber) -> Choice
-        ensures choice { Chosen true (lines_serve self.old.lines.items slice dnn) (takes_first self.old.lines.items slice dnn) result }
+    #[tactic(auto, using(crate::proofs::Firsts::first_chosen))]
+    fn choose(&mut self, wanted: SliceDnn) -> Result<SmfId, NoSmf>
+        ensures choice { Chosen true (lines_serve self.old.lines.items wanted.slice wanted.dnn) (takes_first self.old.lines.items wanted.slice wanted.dnn) result }
         ensures opening { true ≡ true }
         ensures serving { (s n m : ℕ) → lines_serve self.new.lines.items s n m ≡ lines_serve self.old.lines.items s n m }
-        ensures lawful { Lawful (lines_serve self.old.lines.items) (takes_first self.old.lines.items) }
-        ensures first { TakenFirst self.old.lines.items slice dnn result }
+        ensures first { TakenFirst self.old.lines.items wanted.slice wanted.dnn result }
         ensures same { self.new.lines.items ≡ self.old.lines.items }
-        ensures meaning { (s n m : ℕ) → Decides (takes_first self.old.lines.items s n m) (FirstSmf self.old.lines.items s n m) }
-        ensures sole { Sole (takes_first self.old.lines.items) }
     {
-        match first_for(self.lines.as_slice(), slice, dnn) {
-            Some(i) => Choice::Smf(self.lines[i].smf),
-            None => Choice::NoneServes,
-        }
+        self.lines
+            .iter()
+            .find(|line| line.is_for(wanted))
+            .map(|line| line.smf)
+            .ok_or(NoSmf::NoneServes)
     }
+
+    ghost lawful = { λ d. lines_lawful d.lines.items d.good };
+}
+
+impl TakesOne for ListDirectory {
+    ghost means = { λ d s n m. FirstSmf d.lines.items s n m };
+
+    ghost meaning = { λ d. takes_decides d.lines.items };
+
+    ghost sole = { λ d. first_sole d.lines.items };
 }

@@ -1,55 +1,56 @@
 // The DNNs of one slice that one SMF serves.
-ghost use Rattle.std.specs.Prelude.{◌≡◌, ◌-◌, true, false, set, replicate, slice_set};
+ghost use Rattle.std.specs.Prelude.{◌≡◌, true};
 ghost use Rattle.directories.specs.Lines.{numbered};
-ghost use Rattle.directories.specs.Sets.{set_for, is_pair};
+ghost use Rattle.directories.specs.Sets.{set_for, is_pair, with_dnn, set_of};
 
-use codes::{DnnNumber, SliceCode, SmfId};
+use crate::service_line::ServiceLine;
+use codes::{DnnNumber, SliceCode, SliceDnn, SmfId};
 
 #[derive(Clone, Copy)]
 pub(crate) struct ServedSet {
     pub slice: SliceCode,
     pub smf: SmfId,
-    // DNN number 1 is the first.
+    // DNN number 1 is the first. An array, since there are just 64 of them.
     pub numbers: [bool; 64],
 }
 
 impl ServedSet {
-    // The set of a slice and an SMF, with no DNN.
-    pub(crate) fn empty(slice: SliceCode, smf: SmfId) -> ServedSet
-        ensures slice { result.slice ≡ slice }
-        ensures smf { result.smf ≡ smf }
-        ensures numbers { result.numbers ≡ replicate 64 false }
+    // The set of the line's slice and SMF, with its DNN alone. No `From`, since it asks for a good line.
+    pub(crate) fn of(line: ServiceLine) -> ServedSet
+        requires { numbered line.dnn ≡ true }
+        ensures { result ≡ set_of line }
     {
-        ServedSet {
-            slice,
-            smf,
+        let mut set = ServedSet {
+            slice: line.slice,
+            smf: line.smf,
             numbers: [false; 64],
-        }
-    }
-
-    // The same with a DNN more, which may be there.
-    pub(crate) fn with(&self, dnn: DnnNumber) -> ServedSet
-        requires { numbered dnn ≡ true }
-        ensures slice { result.slice ≡ self.now.slice }
-        ensures smf { result.smf ≡ self.now.smf }
-        ensures numbers { result.numbers ≡ slice_set self.now.numbers (dnn - 1) true }
-    {
-        let mut set = *self;
-        set.numbers[(dnn - 1) as usize] = true;
+        };
+        set.add(line.dnn);
         set
     }
 
-    // Whether this is the set of the slice and SMF.
-    pub(crate) fn is_of(&self, slice: SliceCode, smf: SmfId) -> bool
-        ensures { result ≡ is_pair self.now slice smf }
+    // A DNN more, which may be there.
+    pub(crate) fn add(&mut self, dnn: DnnNumber)
+        requires { numbered dnn ≡ true }
+        ensures { self.new ≡ with_dnn self.old dnn }
     {
-        self.slice == slice && self.smf == smf
+        self.numbers[usize::from(dnn - 1)] = true;
+    }
+
+    // Whether this is the set of the line's slice and SMF.
+    pub(crate) fn is_of(&self, line: ServiceLine) -> bool
+        ensures { result ≡ is_pair self.now line.slice line.smf }
+    {
+        self.slice == line.slice && self.smf == line.smf
     }
 
     // Whether the SMF serves the slice and DNN by this set.
-    pub(crate) fn is_for(&self, slice: SliceCode, dnn: DnnNumber) -> bool
-        ensures { result ≡ set_for self.now slice dnn }
+    pub(crate) fn is_for(&self, wanted: SliceDnn) -> bool
+        ensures { result ≡ set_for self.now wanted.slice wanted.dnn }
     {
-        self.slice == slice && dnn > 0 && dnn <= 64 && self.numbers[(dnn - 1) as usize]
+        self.slice == wanted.slice
+            && wanted.dnn > 0
+            && wanted.dnn <= 64
+            && self.numbers[usize::from(wanted.dnn - 1)]
     }
 }

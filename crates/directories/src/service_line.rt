@@ -2,7 +2,7 @@
 ghost use Rattle.std.specs.Prelude.{◌≡◌};
 ghost use Rattle.directories.specs.Lines.{good_line, line_for};
 
-use codes::{DnnNumber, SliceCode, SmfId};
+use codes::{DnnNumber, SliceCode, SliceDnn, SmfId};
 
 #[derive(Clone, Copy)]
 pub struct ServiceLine {
@@ -20,9 +20,9 @@ impl ServiceLine {
     }
 
     // Whether this line is one for the slice and DNN.
-    pub(crate) fn is_for(&self, slice: SliceCode, dnn: DnnNumber) -> bool
-        ensures { result ≡ line_for self.now slice dnn }
+    pub(crate) fn is_for(&self, wanted: SliceDnn) -> bool
+        ensures { result ≡ line_for self.now wanted.slice wanted.dnn }
     {
-        self.slice == slice && self.dnn == dnn
+        self.slice == wanted.slice && self.dnn == wanted.dnn
     }
 }

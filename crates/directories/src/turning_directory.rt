@@ -1,76 +1,32 @@
 // The turning directory: the SMFs that serve a slice and DNN take turns, the next ID above the last one first, and then round.
-ghost use Rattle.std.specs.Prelude.{◌≡◌, ℕ, ◌≤◌, true, [], vec_len, Decides, MatchOption, MatchResult, ◌≢◌};
+ghost use Rattle.std.specs.Prelude.{◌≡◌, ℕ, ◌≤◌, true, [], vec_len, MatchOption, MatchResult, ◌≢◌};
+ghost use Rattle.std.specs.List.{AllPass};
 ghost use Rattle.directories.specs.Additions.{Joined, Unjoined};
 ghost use Rattle.directories.specs.Choices.{Chosen, Answered};
-ghost use Rattle.directories.specs.Meanings.{Lawful, Sole};
-ghost use Rattle.directories.specs.Sets.{sets_serve, NoPair, PairAt, Apart, good_sets};
-ghost use Rattle.directories.specs.Turns.{takes_next, lower_of, Lowest, Next, InTurn};
-ghost use Rattle.directories.specs.Turnings.{choice_of, last_after, Turned, TwoServe};
+ghost use Rattle.directories.specs.SetLaws.{sets_lawful, turn_decides, turn_sole};
+ghost use Rattle.directories.specs.Sets.{sets_serve, NoPair, PairAt, Apart, good_set};
+ghost use Rattle.directories.specs.Turns.{takes_next, Lowest, Next, InTurn};
+ghost use Rattle.directories.specs.Turnings.{Turned, TwoServe};
 
-use crate::choice::Choice;
 use crate::directory::Directory;
 use crate::limit::push_within_limit;
+use crate::no_smf::NoSmf;
 use crate::served_set::ServedSet;
 use crate::service_line::ServiceLine;
-use codes::{DnnNumber, Refusal, SetupError, SliceCode, SmfId};
+use crate::takes_one::TakesOne;
+use codes::{Refusal, SetupError, SliceDnn, SmfId};
 use std::alloc::Global;
 
 #[derive(Drop)]
 pub struct TurningDirectory {
-    // One for each slice and SMF.
+    // One for each slice and SMF. A list and no map by the two: a choice goes over all, and `add` alone looks for one.
     sets: Vec<ServedSet>,
+    // The ID that was chosen last, above which the next is looked for; 0 at first.
     last: SmfId,
     is_open: bool,
     ghost few: { vec_len sets ≤ 64 },
     ghost apart: { Apart sets.items },
-    ghost good: { good_sets sets.items ≡ true },
-}
-
-// Where the set of the slice and SMF is.
-fn pair_at(sets: &[ServedSet], slice: SliceCode, smf: SmfId) -> Option<usize>
-    ensures { MatchOption result (NoPair sets.now slice smf) (λ i. PairAt sets.now slice smf i) }
-{
-    for (i, set) in sets.iter().enumerate() {
-        if set.is_of(slice, smf) {
-            return Some(i);
-        }
-    }
-    None
-}
-
-// The ID, where it is above the bound and below the lowest so far, which is 0 where there is none.
-fn lower(smf: SmfId, lowest: SmfId, bound: SmfId) -> SmfId
-    ensures { result ≡ lower_of smf lowest bound }
-{
-    if smf > bound && (lowest == 0 || smf < lowest) {
-        smf
-    } else {
-        lowest
-    }
-}
-
-// The lowest ID above the bound that serves the slice and DNN, or 0.
-fn lowest_above(sets: &[ServedSet], slice: SliceCode, dnn: DnnNumber, bound: SmfId) -> SmfId
-    ensures { Lowest (sets_serve sets.now slice dnn) bound result }
-{
-    let mut lowest = 0;
-    for set in sets {
-        if set.is_for(slice, dnn) {
-            lowest = lower(set.smf, lowest, bound);
-        }
-    }
-    lowest
-}
-
-// The ID that comes next after the last one, going round, or 0.
-fn next_in_turn(sets: &[ServedSet], slice: SliceCode, dnn: DnnNumber, last: SmfId) -> SmfId
-    ensures { Next (sets_serve sets.now slice dnn) last result }
-{
-    let above = lowest_above(sets, slice, dnn, last);
-    if above > 0 {
-        return above;
-    }
-    lowest_above(sets, slice, dnn, 0)
+    ghost good: { AllPass good_set sets.items },
 }
 
 impl TurningDirectory {
@@ -88,24 +44,29 @@ impl TurningDirectory {
     }
 
     // The line's SMF serves its slice and DNN too. All is checked before any memory is asked for.
+    #[tactic(auto, using(crate::proofs::Joins::joined_by))]
     pub fn add(&mut self, line: ServiceLine) -> Result<(), SetupError>
         ensures sets { MatchResult result (λ _. Joined self.old.sets.items line self.new.sets.items) (λ e. Unjoined self.old.sets.items line self.new.sets.items e) }
         ensures opening { self.new.is_open ≡ self.old.is_open }
         ensures last { self.new.last ≡ self.old.last }
     {
         if !line.is_good() {
-            return Err(SetupError::Refused(Refusal::Opening));
+            return Err(Refusal::Opening.into());
         }
-        match pair_at(self.sets.as_slice(), line.slice, line.smf) {
+        match self.place_of(line) {
             Some(i) => {
-                self.sets[i] = self.sets[i].with(line.dnn);
+                self.sets[i].add(line.dnn);
                 Ok(())
             }
-            None => push_within_limit(
-                &mut self.sets,
-                ServedSet::empty(line.slice, line.smf).with(line.dnn),
-            ),
+            None => push_within_limit(&mut self.sets, ServedSet::of(line)),
         }
+    }
+
+    // Where the set of the line's slice and SMF is.
+    fn place_of(&self, line: ServiceLine) -> Option<usize>
+        ensures { MatchOption result (NoPair self.now.sets.items line.slice line.smf) (λ i. PairAt self.now.sets.items line.slice line.smf i) }
+    {
+        self.sets.iter().position(|set| set.is_of(line))
     }
 
     // Opens or closes it.
@@ -117,31 +78,35 @@ impl TurningDirectory {
         self.is_open = open;
     }
 
-    // The choice of the next ID, from which the turn then goes on; 0 is none.
-    fn take(&mut self, next: SmfId) -> Choice
-        ensures choice { result ≡ choice_of next }
-        ensures last { self.new.last ≡ last_after next self.old.last }
-        ensures opening { self.new.is_open ≡ self.old.is_open }
-        ensures same { self.new.sets.items ≡ self.old.sets.items }
+    // The lowest ID above the bound that serves the slice and DNN.
+    fn lowest_above(&self, wanted: SliceDnn, bound: SmfId) -> Option<SmfId>
+        ensures { Lowest (sets_serve self.now.sets.items wanted.slice wanted.dnn) bound result }
     {
-        if next == 0 {
-            return Choice::NoneServes;
-        }
-        self.last = next;
-        Choice::Smf(next)
+        self.sets
+            .iter()
+            .filter(|set| set.smf > bound && set.is_for(wanted))
+            .map(|set| set.smf)
+            .min()
+    }
+
+    // The ID that comes next after the last one, going round.
+    #[tactic(auto, using(crate::proofs::Rounds::next_by))]
+    fn next_in_turn(&self, wanted: SliceDnn) -> Option<SmfId>
+        ensures { Next (sets_serve self.now.sets.items wanted.slice wanted.dnn) self.now.last result }
+    {
+        self.lowest_above(wanted, self.last)
+            .or_else(|| self.lowest_above(wanted, 0))
     }
 
     // Two choices in a row, which differ wherever two SMFs serve.
-    pub fn choose_two(&mut self, slice: SliceCode, dnn: DnnNumber) -> (Choice, Choice)
-        ensures turns { (between : ℕ) × Turned (sets_serve self.old.sets.items slice dnn) self.old.last between result.0 × Turned (sets_serve self.old.sets.items slice dnn) between self.new.last result.1 }
-        ensures answered { Answered self.old.is_open (sets_serve self.old.sets.items slice dnn) result.0 × Answered self.old.is_open (sets_serve self.old.sets.items slice dnn) result.1 }
-        ensures differ { self.old.is_open ≡ true → TwoServe (sets_serve self.old.sets.items slice dnn) → result.0 ≢ result.1 }
+    pub fn choose_two(&mut self, wanted: SliceDnn) -> (Result<SmfId, NoSmf>, Result<SmfId, NoSmf>)
+        ensures turns { (between : ℕ) × Turned (sets_serve self.old.sets.items wanted.slice wanted.dnn) self.old.last between result.0 × Turned (sets_serve self.old.sets.items wanted.slice wanted.dnn) between self.new.last result.1 }
+        ensures answered { Answered self.old.is_open (sets_serve self.old.sets.items wanted.slice wanted.dnn) result.0 × Answered self.old.is_open (sets_serve self.old.sets.items wanted.slice wanted.dnn) result.1 }
+        ensures differ { self.old.is_open ≡ true → TwoServe (sets_serve self.old.sets.items wanted.slice wanted.dnn) → result.0 ≢ result.1 }
         ensures opening { self.new.is_open ≡ self.old.is_open }
         ensures same { self.new.sets.items ≡ self.old.sets.items }
     {
-        let first = self.choose(slice, dnn);
-        let second = self.choose(slice, dnn);
-        (first, second)
+        (self.choose(wanted), self.choose(wanted))
     }
 }
 
@@ -152,20 +117,29 @@ impl Directory for TurningDirectory {
 
     ghost takes = { λ d s n m. takes_next d.sets.items d.last s n m };
 
-    fn choose(&mut self, slice: SliceCode, dnn: DnnNumber) -> Choice
-        ensures choice { Chosen self.old.is_open (sets_serve self.old.sets.items slice dnn) (takes_next self.old.sets.items self.old.last slice dnn) result }
+    #[tactic(auto, using(crate::specs::SetLaws::turn_to))]
+    fn choose(&mut self, wanted: SliceDnn) -> Result<SmfId, NoSmf>
+        ensures choice { Chosen self.old.is_open (sets_serve self.old.sets.items wanted.slice wanted.dnn) (takes_next self.old.sets.items self.old.last wanted.slice wanted.dnn) result }
         ensures opening { self.new.is_open ≡ self.old.is_open }
         ensures serving { (s n m : ℕ) → sets_serve self.new.sets.items s n m ≡ sets_serve self.old.sets.items s n m }
-        ensures lawful { Lawful (sets_serve self.old.sets.items) (takes_next self.old.sets.items self.old.last) }
-        ensures turn { Turned (sets_serve self.old.sets.items slice dnn) self.old.last self.new.last result }
+        ensures turn { Turned (sets_serve self.old.sets.items wanted.slice wanted.dnn) self.old.last self.new.last result }
         ensures same { self.new.sets.items ≡ self.old.sets.items }
-        ensures meaning { (s n m : ℕ) → Decides (takes_next self.old.sets.items self.old.last s n m) (InTurn (sets_serve self.old.sets.items s n) self.old.last m) }
-        ensures sole { Sole (takes_next self.old.sets.items self.old.last) }
     {
         if !self.is_open {
-            return Choice::Closed;
+            return Err(NoSmf::Closed);
         }
-        let next = next_in_turn(self.sets.as_slice(), slice, dnn, self.last);
-        self.take(next)
+        let smf = self.next_in_turn(wanted).ok_or(NoSmf::NoneServes)?;
+        self.last = smf;
+        Ok(smf)
     }
+
+    ghost lawful = { λ d. sets_lawful d.sets.items d.last d.good };
+}
+
+impl TakesOne for TurningDirectory {
+    ghost means = { λ d s n m. InTurn (sets_serve d.sets.items s n) d.last m };
+
+    ghost meaning = { λ d. turn_decides d.sets.items d.last };
+
+    ghost sole = { λ d. turn_sole d.sets.items d.last };
 }

@@ -1,2 +1,1 @@
-mod Rows
-mod Tells
+pub mod Tells

@@ -1,32 +1,33 @@
 -- What a table's calls say of its rows, told of the contexts in them.
-use Rattle.std.proofs.Common.{◌≡◌, ℕ, ◌+◌, ◌≤◌, Bool, true, false, cond, not, ◌&&◌, eqb, ltb, ◌⊎◌, List, length, get_or, is_some, Some, None, Decides, MatchBool, Option, sym, refl, ap, ◌∙◌, subst, inl, inr, arith, length-set, Bor}
-use Rattle.std.proofs.lemmas.Bool.{cases_Bool, and_parts, and_from, and_right, or_left, or_right, or_from, eqb-true, eq-eqb, ne_eqb, lt-ltb, le-ltb, true≢false}
-use Rattle.tables.specs.Lists.{first_that}
-use Rattle.tables.specs.Rows.{Absent, First, Apart, Sole, AllFree, NoneFree, FirstFree}
+use Rattle.std.proofs.Common.{◌≡◌, ℕ, suc, ◌+◌, min, Bool, true, false, cond, not, ◌&&◌, eqb, ltb, ◌⊎◌, List, [], ◌∷◌, length, get_or, is_some, Some, None, Decides, Option, Result, Ok, Err, sym, refl, ap, ◌∙◌, subst, inl, inr, zero-lt-suc, arith, length-set}
+use Rattle.std.specs.Result.{is_ok, result_or}
+use Rattle.std.specs.List.{find, cons_option, count_by, filter_map, reduce}
+use Rattle.std.proofs.lemmas.Bool.{cases_Bool, and_parts, and_from, and_right, or_left, or_right, or_from, eqb-true, eq-eqb, lt-ltb, le-ltb, true≢false, false≢true}
+use Rattle.tables.specs.Rows.{Absent, First, Apart, AllFree, NoneFree, FirstFree, FindsTarget}
 use Rattle.tables.specs.Tables.{Takes, Full, Frees}
 use Rattle.tables.specs.Tables as tables
+use Rattle.tables.specs.declared.table.TableFull.{TableFull}
 use Rattle.tables.proofs.Found as found
 use Rattle.tables.proofs.Found.{absent_none, first_some, takes_here, takes_other, takes_size, frees_here, frees_other, frees_size, used, none_used, all_used, some_free, zero_used}
 use Rattle.stores.specs.declared.context.Context.{Context}
-use Rattle.stores.specs.Contexts.{pair_fits, fits, is_of, lookup, others_of, lowest_emergency, emergency_at, Lowest}
-use Rattle.stores.specs.Stores.{Laws, Puts, Removes}
-use Rattle.stores.proofs.Questions.{found_fits, found_pair, count_others, lowest_other}
-use Rattle.stores.proofs.Lowests.{lowest_is}
+use Rattle.stores.specs.declared.no_room.NoRoom.{NoRoom}
+use Rattle.stores.specs.declared.pdu_session.PduSession.{PduSession}
+use Rattle.stores.specs.Contexts.{pair_fits, fits, is_of, lookup, others_of, is_other, other_emergency, emergency_at, Lowest}
+use Rattle.stores.specs.Stores.{Puts, Removes}
+use Rattle.stores.proofs.Counts.{count_cons}
+use Rattle.stores.proofs.Questions.{count_others, lowest_other}
 use Rattle.flat.specs.declared.context_row.ContextRow.{ContextRow}
-use Rattle.flat.specs.declared.pair.Pair.{Pair}
-use Rattle.flat.specs.Flat.{mk_pair, pair_in, is_free, pair_of, held_in, room_in, other_rows, lowest_row}
-use Rattle.flat.proofs.Rows.{row_is, tests, pair_is, is_pair, held_of, held_lookup, held_length, all_fit, once_in, other_held, lowest_held}
+use Rattle.flat.specs.Held.{held_other, held_emergency}
+use Rattle.flat.specs.Flat.{mk_pair, pair_in, is_free, pair_of, held_in, room_in}
+use Rattle.flat.specs.Rows.{row_is, tests, pair_is, is_pair, held_of, held_lookup, held_length, all_fit, once_in}
 
-pub laws_of : (xs : List ContextRow) → Apart is_free pair_of xs → 16 ≤ length xs → Laws (held_in xs) (length xs) (room_in xs)
-laws_of xs h n =
-    record {
-      once = once_in xs h;
-      bounds = λ u k c e. found_fits (held_in xs) u k c (all_fit xs) e;
-      held = λ u k e. and_from _ _ (found_pair (held_in xs) u k (all_fit xs) e) (or_left _ _ e);
-      spare = λ u k l f. and_from _ _ f (or_right _ _ (lt-ltb _ _ l));
-      within = λ u k e. (and_parts (pair_fits u k) _ e).0;
-      enough = n;
-    }
+pub none_held : (xs : List ContextRow) → AllFree is_free xs → held_in xs ≡ []
+none_held [] h = refl
+none_held (x ∷ xs) h = go x.held (h 0 x (zero-lt-suc (length xs))) (none_held xs (λ j d l. h (suc j) d (omega arith)))
+  where
+    go : (o : Option Context) → not (is_some o) ≡ true → held_in xs ≡ [] → cons_option o (held_in xs) ≡ []
+    go None f e = e
+    go (Some c) f e = absurd (false≢true f)
 
 pub found_held : (xs : List ContextRow) (u k i : ℕ) (x : ContextRow) → First is_free pair_of (mk_pair u k) xs i → lookup (held_in xs) u k ≡ (get_or xs i x).held
 found_held xs u k i x f = held_lookup xs u k ∙ ap held_of (first_some is_free pair_of (row_is u k) (mk_pair u k) xs i x (tests u k) f)
@@ -56,8 +57,8 @@ full_counts xs h = let e = held_length xs in let l = all_used is_free xs h in le
 
 -- ---- put
 
-pub record Put (c : Context) (xs ys : List ContextRow) (r : Bool) : Type 0 where
-  pub room : r ≡ (fits c && room_in xs c.ue c.session)
+pub record Put (c : Context) (xs ys : List ContextRow) (r : Result (Unit {0}) NoRoom) : Type 0 where
+  pub room : is_ok r ≡ (fits c && room_in xs c.ue c.session)
   pub puts : Puts c (held_in xs) (held_in ys) (room_in xs) (room_in ys) r
   pub long : length ys ≡ length xs
 
@@ -76,7 +77,7 @@ module _ (c : Context) (x : ContextRow) (e : x.held ≡ Some c) (f : fits c ≡ 
     where
       go : (is_of u k c ≡ true) ⊎ (is_of u k c ≡ false) → lookup (held_in ys) u k ≡ cond (is_of u k c) (Some c) (lookup (held_in xs) u k)
       go (inl p) =
-          let s = subst (λ (q : Pair). found.Tests is_free pair_of (row_is u k) q) (sym (own ∙ pair_is c u k p)) (tests u k) in
+          let s = subst (λ (q : PduSession). found.Tests is_free pair_of (row_is u k) q) (sym (own ∙ pair_is c u k p)) (tests u k) in
           rw p (held_lookup ys u k ∙ ap held_of (takes_here is_free pair_of (row_is u k) x xs ys i s taken t) ∙ e)
       go (inr p) =
           rw p
@@ -88,9 +89,9 @@ module _ (c : Context) (x : ContextRow) (e : x.held ≡ Some c) (f : fits c ≡ 
   put_size i t = go t.place
     where
       s : found.Tests is_free pair_of (row_is c.ue c.session) (pair_of x)
-      s = subst (λ (q : Pair). found.Tests is_free pair_of (row_is c.ue c.session) q) (sym own) (tests c.ue c.session)
+      s = subst (λ (q : PduSession). found.Tests is_free pair_of (row_is c.ue c.session) q) (sym own) (tests c.ue c.session)
 
-      n : used is_free ys ≡ used is_free xs + cond (is_some (first_that (row_is c.ue c.session) xs)) 0 1
+      n : used is_free ys ≡ used is_free xs + cond (is_some (find (row_is c.ue c.session) xs)) 0 1
       n = takes_size is_free pair_of (row_is c.ue c.session) x xs ys i s taken t
 
       go : First is_free pair_of (pair_of x) xs i ⊎ (FirstFree is_free xs i × Absent is_free pair_of (pair_of x) xs) → length (held_in ys) ≡ length (held_in xs) + cond (is_some (lookup (held_in xs) c.ue c.session)) 0 1
@@ -98,29 +99,29 @@ module _ (c : Context) (x : ContextRow) (e : x.held ≡ Some c) (f : fits c ≡ 
           let a = held_length xs in
           let b = held_length ys in
           let m = rw (first_some is_free pair_of (row_is c.ue c.session) (pair_of x) xs i x s h) at n in
-          rw (first_held xs c.ue c.session i x (subst (λ (q : Pair). First is_free pair_of q xs i) own h)) (omega (arith, a, b, m))
+          rw (first_held xs c.ue c.session i x (subst (λ (q : PduSession). First is_free pair_of q xs i) own h)) (omega (arith, a, b, m))
       go (inr (h, z)) =
           let a = held_length xs in
           let b = held_length ys in
           let m = rw (absent_none is_free pair_of (row_is c.ue c.session) (pair_of x) xs s z) at n in
-          rw (none_found xs c.ue c.session (subst (λ (q : Pair). Absent is_free pair_of q xs) own z)) (omega (arith, a, b, m))
+          rw (none_found xs c.ue c.session (subst (λ (q : PduSession). Absent is_free pair_of q xs) own z)) (omega (arith, a, b, m))
 
   put_room : (i : ℕ) → Takes is_free pair_of x xs ys i → room_in xs c.ue c.session ≡ true
   put_room i t = go t.place
     where
       go : First is_free pair_of (pair_of x) xs i ⊎ (FirstFree is_free xs i × Absent is_free pair_of (pair_of x) xs) → room_in xs c.ue c.session ≡ true
-      go (inl h) = and_from _ _ pair_bounds (or_left _ _ (first_held xs c.ue c.session i x (subst (λ (q : Pair). First is_free pair_of q xs i) own h)))
+      go (inl h) = and_from _ _ pair_bounds (or_left _ _ (first_held xs c.ue c.session i x (subst (λ (q : PduSession). First is_free pair_of q xs i) own h)))
       go (inr (h, z)) = and_from _ _ pair_bounds (or_right _ _ (free_counts xs i h))
 
-  pub put_tells : (r : Bool) → tables.Sets is_free pair_of x xs ys r → Put c xs ys r
-  put_tells true (i, t) =
+  pub put_tells : (r : Result (Unit {0}) TableFull) → tables.Sets is_free pair_of x xs ys r → Put c xs ys (result_or r (Err (record {})))
+  put_tells (Ok _) (i, t) =
       record {
         room = sym (and_from _ _ f (put_room i t));
         puts = record { at = put_at i t; size = put_size i t };
         long = ap (λ (l : List ContextRow). length l) t.after ∙ length-set xs i x;
       }
-  put_tells false t =
-      let a = none_found xs c.ue c.session (subst (λ (q : Pair). Absent is_free pair_of q xs) own t.absent) in
+  put_tells (Err _) t =
+      let a = none_found xs c.ue c.session (subst (λ (q : PduSession). Absent is_free pair_of q xs) own t.absent) in
       record {
         room = sym (and_right (fits c) _ (and_right (pair_fits c.ue c.session) _ (or_from _ _ (ap (λ (o : Option Context). is_some o) a) (full_counts xs t.full))));
         puts = record { contexts = ap held_in t.same; rooms = λ u k. ap (λ (l : List ContextRow). room_in l u k) t.same };
@@ -142,12 +143,12 @@ module _ (u k : ℕ) (xs ys : List ContextRow) (h : Apart is_free pair_of xs) wh
           let a = eqb-true u v (and_parts (eqb u v) (eqb k j) p).0 in
           let b = eqb-true k j (and_parts (eqb u v) (eqb k j) p).1 in
           let q : mk_pair v j ≡ mk_pair u k = cc in
-          rw p (held_lookup ys v j ∙ ap held_of (frees_here is_free pair_of (row_is v j) (mk_pair u k) xs ys i x (subst (λ (z : Pair). found.Tests is_free pair_of (row_is v j) z) q (tests v j)) h t))
+          rw p (held_lookup ys v j ∙ ap held_of (frees_here is_free pair_of (row_is v j) (mk_pair u k) xs ys i x (subst (λ (z : PduSession). found.Tests is_free pair_of (row_is v j) z) q (tests v j)) h t))
       go (inr p) =
           rw p
           (held_lookup ys v j
           ∙ ap held_of (frees_other is_free pair_of (row_is v j) (mk_pair u k) (mk_pair v j) xs ys i x (tests v j)
-          (λ q. true≢false (sym (and_from _ _ (eq-eqb u v (ap (λ (z : Pair). z.ue) q)) (eq-eqb k j (ap (λ (z : Pair). z.session) q))) ∙ p)) t)
+          (λ q. true≢false (sym (and_from _ _ (eq-eqb u v (ap (λ (z : PduSession). z.ue) q)) (eq-eqb k j (ap (λ (z : PduSession). z.id) q))) ∙ p)) t)
           ∙ sym (held_lookup xs v j))
 
   pub remove_tells : (r : Bool) → tables.Removes is_free pair_of (mk_pair u k) xs ys r → Gone u k xs ys r
@@ -170,36 +171,40 @@ module _ (u k : ℕ) (xs ys : List ContextRow) (h : Apart is_free pair_of xs) wh
 
 -- ---- questions
 
-pub store_laws : (xs : List ContextRow) → Sole is_free pair_of xs → 16 ≤ length xs → Laws (held_in xs) (length xs) (room_in xs)
-store_laws xs s n = laws_of xs (found.apart is_free pair_of xs s) n
+pub empty_told : (xs : List ContextRow) → Decides (eqb (length (held_in xs)) 0) (AllFree is_free xs)
+empty_told xs =
+    let e = held_length xs in (
+      (λ z. zero_used is_free xs (let n = eqb-true (length (held_in xs)) 0 z in omega (arith, e, n))),
+      (λ h. let n = none_used is_free xs h in eq-eqb _ _ (omega (arith, e, n))),
+    )
 
-pub empty_test : (xs : List ContextRow) (r : Bool) → Decides r (AllFree is_free xs) → r ≡ eqb (length (held_in xs)) 0
-empty_test xs true h =
-    let e = held_length xs in
-    let n = none_used is_free xs (h.0 refl) in
-    sym (eq-eqb _ _ (omega (arith, e, n)))
-empty_test xs false h =
-    let e = held_length xs in
-    sym (ne_eqb _ _ (λ z. true≢false (sym (h.1 (zero_used is_free xs (omega (arith, e, z)))))))
+-- room as it is asked for: the session is in bounds, and it is held or a row is free
+pub room_told : (xs : List ContextRow) (u k : ℕ) (o : Option ℕ) → pair_fits u k ≡ true → FindsTarget is_free pair_of (mk_pair u k) xs o → is_some o ≡ room_in xs u k
+room_told xs u k None f (a, n) = sym (and_right (pair_fits u k) _ (or_from _ _ (ap (λ (o : Option Context). is_some o) (none_found xs u k a)) (full_counts xs n)))
+room_told xs u k (Some i) f (inl h) = sym (and_from _ _ f (or_left _ _ (first_held xs u k i none h)))
+room_told xs u k (Some i) f (inr (h, a)) = sym (and_from _ _ f (or_right _ _ (free_counts xs i h)))
 
--- room as it is asked for: the pair is in bounds, and it is held or a row is free
-pub room_held : (xs : List ContextRow) (u k : ℕ) (o : Option (Bor ContextRow)) → true ≡ pair_fits u k → true ≡ is_some o → tables.Gets is_free pair_of (mk_pair u k) xs o → room_in xs u k ≡ true
-room_held xs u k None f e g = absurd (true≢false e)
-room_held xs u k (Some x) f e (i, h, _) = and_from _ _ (sym f) (or_left _ _ (first_held xs u k i x.now h))
+count_held : (u k : ℕ) (xs : List ContextRow) → count_by (λ x. held_other u k x.held) xs ≡ count_by (is_other u k) (held_in xs)
+count_held u k [] = refl
+count_held u k (x ∷ xs) =
+    let m = count_cons (λ (y : ContextRow). held_other u k y.held) x xs in
+    go x.held (count_held u k xs) m
+  where
+    go : (o : Option Context) → count_by (λ (y : ContextRow). held_other u k y.held) xs ≡ count_by (is_other u k) (held_in xs) → {n : ℕ} → n ≡ cond (held_other u k o) 1 0 + count_by (λ (y : ContextRow). held_other u k y.held) xs → n ≡ count_by (is_other u k) (cons_option o (held_in xs))
+    go None e m = omega (arith, e, m)
+    go (Some c) e m = let d = count_cons (is_other u k) c (held_in xs) in omega (arith, e, m, d)
 
-pub room_free : (xs : List ContextRow) (u k : ℕ) (o : Option (Bor ContextRow)) (r : Bool) → true ≡ pair_fits u k → false ≡ is_some o → tables.Gets is_free pair_of (mk_pair u k) xs o → MatchBool r ((i : ℕ) × FirstFree is_free xs i) (NoneFree is_free xs) → r ≡ room_in xs u k
-room_free xs u k (Some x) r f e g h = absurd (true≢false (sym e))
-room_free xs u k None true f e g (i, h) = sym (and_from _ _ (sym f) (or_right _ _ (free_counts xs i h)))
-room_free xs u k None false f e g h = sym (and_right (pair_fits u k) _ (or_from _ _ (ap (λ (o : Option Context). is_some o) (none_found xs u k g)) (full_counts xs h)))
+pub others_counted : (xs : List ContextRow) (u k : ℕ) → Apart is_free pair_of xs → count_by (λ x. held_other u k x.held) xs ≡ others_of (held_in xs) u k
+others_counted xs u k h = count_held u k xs ∙ count_others u k (held_in xs) (once_in xs h) (all_fit xs)
 
-pub others_counted : (xs : List ContextRow) → Sole is_free pair_of xs → (u k r : ℕ) → r ≡ other_rows u k xs → r ≡ others_of (held_in xs) u k
-others_counted xs s u k r e = e ∙ other_held u k xs ∙ count_others u k (held_in xs) (once_in xs (found.apart is_free pair_of xs s)) (all_fit xs)
+lowest_held : (u k : ℕ) (xs : List ContextRow) → filter_map (λ x. held_emergency u k x.held) xs ≡ filter_map (other_emergency u k) (held_in xs)
+lowest_held u k [] = refl
+lowest_held u k (x ∷ xs) = go x.held (lowest_held u k xs)
+  where
+    go : (o : Option Context) → filter_map (λ y. held_emergency u k y.held) xs ≡ filter_map (other_emergency u k) (held_in xs) → cons_option (held_emergency u k o) (filter_map (λ y. held_emergency u k y.held) xs) ≡ filter_map (other_emergency u k) (cons_option o (held_in xs))
+    go None e = e
+    go (Some c) e = ap (cons_option (other_emergency u k c)) e
 
-pub record Lows (xs : List Context) (u k : ℕ) (r : Option ℕ) : Type 0 where
-  pub value : r ≡ lowest_emergency xs u k
-  pub lowest : Lowest (emergency_at xs u k) r
-
-pub lowest_told : (xs : List ContextRow) → Sole is_free pair_of xs → (u k : ℕ) (r : Option ℕ) → r ≡ lowest_row u k xs → Lows (held_in xs) u k r
-lowest_told xs s u k r e =
-    let h = subst (Lowest (emergency_at (held_in xs) u k)) (sym (e ∙ lowest_held u k xs)) (lowest_other u k (held_in xs) (once_in xs (found.apart is_free pair_of xs s)) (all_fit xs)) in
-    record { value = lowest_is (emergency_at (held_in xs) u k) r h; lowest = h }
+pub lowest_told : (xs : List ContextRow) (u k : ℕ) (r : Option ℕ) → Apart is_free pair_of xs → r ≡ reduce min (filter_map (λ x. held_emergency u k x.held) xs) → Lowest (emergency_at (held_in xs) u k) r
+lowest_told xs u k r h e =
+    subst (Lowest (emergency_at (held_in xs) u k)) (sym (e ∙ ap (reduce min) (lowest_held u k xs))) (lowest_other u k (held_in xs) (once_in xs h) (all_fit xs))

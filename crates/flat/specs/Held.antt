@@ -1,12 +1,7 @@
 -- What a row of a flat store has: a context in bounds, or none.
-use Rattle.std.specs.Prelude.{ℕ, Bool, true, false, ◌&&◌, Some, None, Option, nat_lt}
+use Rattle.std.specs.Prelude.{ℕ, Bool, false, ◌&&◌, Some, None, Option, nat_lt}
 use Rattle.stores.specs.declared.context.Context.{Context}
-use Rattle.stores.specs.Contexts.{fits, is_other, other_emergency}
-
--- the context is in bounds, if there is one
-abbrev pub held_fits : Option Context → Bool
-held_fits None = true
-held_fits (Some c) = fits c
+use Rattle.stores.specs.Contexts.{is_other, other_emergency}
 
 -- how many rows a flat store may have
 abbrev pub rows_fit : ℕ → Bool

@@ -1,2 +1,4 @@
 pub mod Flat
 pub mod Held
+pub mod Rows
+pub mod Laws

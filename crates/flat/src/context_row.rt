@@ -1,15 +1,16 @@
 // A row of the flat store: a context in bounds, or nothing.
-ghost use Rattle.std.specs.Prelude.{◌≡◌, true, false, Some, None, MatchOption};
-ghost use Rattle.stores.specs.Contexts.{fits};
-ghost use Rattle.flat.specs.Held.{held_fits, held_other, held_emergency};
+ghost use Rattle.std.specs.Prelude.{◌≡◌, true, false, Some, None, MatchResult};
+ghost use Rattle.stores.specs.Contexts.{fits, in_bounds};
+ghost use Rattle.flat.specs.Held.{held_other, held_emergency};
 
-use codes::{SessionId, UeNumber};
-use stores::Context;
+use codes::SessionId;
+use stores::{Context, NoRoom, PduSession};
 
+// No one type with a control table's row, since what is held keeps another invariant there.
 #[derive(Clone, Copy)]
 pub struct ContextRow {
     pub(crate) held: Option<Context>,
-    ghost bounded: { held_fits held ≡ true },
+    ghost bounded: { in_bounds held ≡ true },
 }
 
 impl ContextRow {
@@ -20,38 +21,34 @@ impl ContextRow {
         ContextRow { held: None }
     }
 
-    // The row of a context, if a store can have it.
-    pub(crate) fn of(context: Context) -> Option<ContextRow>
-        ensures { MatchOption result (fits context ≡ false) (λ x. (fits context ≡ true) × (x.held ≡ Some context)) }
-    {
-        if context.is_in_bounds() {
-            Some(ContextRow {
-                held: Some(context),
-            })
-        } else {
-            None
-        }
-    }
-
     // Whether its context is of another session of the UE.
-    pub(crate) fn is_other(&self, ue: UeNumber, session: SessionId) -> bool
-        ensures { result ≡ held_other ue session self.now.held }
+    pub(crate) fn is_other(&self, session: PduSession) -> bool
+        ensures { result ≡ held_other session.ue session.id self.now.held }
     {
-        match self.held {
-            Some(context) => context.ue == ue && context.session != session,
-            None => false,
-        }
+        self.held.is_some_and(|context| context.ue == session.ue && context.session != session.id)
     }
 
     // The session of its context, if that is an emergency context of another session of the UE.
-    pub(crate) fn other_emergency(&self, ue: UeNumber, session: SessionId) -> Option<SessionId>
-        ensures { result ≡ held_emergency ue session self.now.held }
+    pub(crate) fn other_emergency(&self, session: PduSession) -> Option<SessionId>
+        ensures { result ≡ held_emergency session.ue session.id self.now.held }
     {
-        match self.held {
-            Some(context) if context.emergency && self.is_other(ue, session) => Some(
-                context.session,
-            ),
-            _ => None,
+        let context = self.held?;
+        (context.emergency && self.is_other(session)).then_some(context.session)
+    }
+}
+
+// A context that no store can have gets no row.
+impl TryFrom<Context> for ContextRow {
+    type Error = NoRoom;
+
+    ghost try_from_gives = { λ context r. MatchResult r (λ x. (fits context ≡ true) × (x.held ≡ Some context)) (λ _. fits context ≡ false) };
+
+    fn try_from(context: Context) -> Result<ContextRow, NoRoom> {
+        if !context.is_in_bounds() {
+            return Err(NoRoom);
         }
+        Ok(ContextRow {
+            held: Some(context),
+        })
     }
 }

@@ -3,7 +3,7 @@
 
 mod context_row;
 mod flat_store;
-mod pair;
+mod row_key;
 
 pub use context_row::ContextRow;
 pub use flat_store::FlatStore;

@@ -1,5 +1,5 @@
-mod Places
+mod Written
 mod Rows
-mod Laws
+pub mod Rooms
 mod Tells
 mod Stores

@@ -1,76 +1,69 @@
 -- What the calls on the rows tell of the contexts in them.
-use Rattle.std.proofs.Common.{◌≡◌, ℕ, zero, suc, ◌+◌, ◌<◌, Bool, true, false, cond, not, ◌&&◌, eqb, ltb, List, length, get_or, set, replicate, is_some, Some, None, MatchBool, Option, sym, refl, ap, ◌∙◌, subst, inl, ⊎_elim, arith, length-set}
+use Rattle.std.proofs.Common.{◌≡◌, ℕ, ◌+◌, ◌<◌, Bool, true, false, cond, not, ◌&&◌, eqb, ltb, List, length, get_or, set, replicate, is_some, Some, None, MatchBool, MatchOption, Option, Bor, sym, refl, ap, ◌∙◌, subst, inl, ⊎_elim, arith, length-set}
 use lib.ListN.{length-replicate, get_or-replicate}
 use Rattle.std.specs.Option.{option_map}
 use Rattle.std.proofs.lemmas.List.{set-get_or}
 use Rattle.std.proofs.lemmas.Bool.{cases_Bool, and_parts, and_right, ltb-true, cond_both, true≢false}
-use Rattle.tables.specs.Rows.{Apart, Sole, First, Absent, AllFree}
-use Rattle.tables.proofs.Found.{apart, sole}
+use Rattle.tables.specs.Rows.{Apart, First, Absent, AllFree, Target}
+use Rattle.tables.specs.Tables.{Gets}
 use Rattle.stores.specs.declared.context.Context.{Context}
-use Rattle.stores.specs.Contexts.{pair_fits, fits, lookup, is_emergency, other_at, others_of, emergency_at, Lowest, count_to}
+use Rattle.stores.specs.Contexts.{in_bounds, pair_fits, fits, lookup, is_emergency, other_at, others_of, emergency_at, lowest_emergency, sessions}
 use Rattle.stores.specs.Stores.{Stored, Removes}
 use Rattle.grid.specs.declared.place.Place.{Place}
 use Rattle.grid.specs.declared.ue_row.UeRow.{UeRow}
-use Rattle.grid.specs.Grids.{place_of, context_of, context_at, other_in, others_in, emergency_in, is_free, ue_of, written, contexts_in, room_in, in_bounds, RowFor}
+use Rattle.grid.specs.Grids.{place_of, context_of, context_at, other_in, others_in, emergency_in, is_free, ue_of, written, contexts_in, room_in}
+use Rattle.std.specs.List.{find}
 use Rattle.stores.proofs.Counts.{count_same}
-use Rattle.grid.proofs.Places.{out_none}
-use Rattle.grid.proofs.Rows.{all_free_none, apart_after, lookup_after, size_after, found_at, absent_at}
-use Rattle.grid.proofs.Laws.{Bounded, Sound}
+use Rattle.stores.proofs.Lowests.{find_same}
+use Rattle.grid.specs.Places.{out_none}
+use Rattle.grid.specs.Rows.{all_free_none, found_at, absent_at}
+use Rattle.grid.specs.Laws.{Bounded, Sound}
+use Rattle.grid.proofs.Rows.{apart_after, lookup_after, size_after}
 
 -- ---- rows that are all free
 
 pub copies_free : (n : ℕ) (x : UeRow) → is_free x ≡ true → AllFree is_free (replicate n x)
 copies_free n x e j d l = ap is_free (get_or-replicate n j x d (rw (length-replicate n x) at l)) ∙ e
 
-pub free_sole : (xs : List UeRow) → AllFree is_free xs → Sole is_free ue_of xs
-free_sole xs h i j (d, (a, b, v, w, e)) = absurd (true≢false (sym (h i d a) ∙ v))
+pub free_apart : (xs : List UeRow) → AllFree is_free xs → Apart is_free ue_of xs
+free_apart xs h i j d a b v w e = absurd (true≢false (sym (h i d a) ∙ v))
 
 pub free_bounded : (xs : List UeRow) → AllFree is_free xs → Bounded xs
 free_bounded xs h u k = ap (λ (cs : List Context). in_bounds (lookup cs u k)) (all_free_none xs h)
 
 -- ---- what a UE has
 
-module _ (xs : List UeRow) (u k : ℕ) (s : Sole is_free ue_of xs) where
-  h : Apart is_free ue_of xs
-  h = apart is_free ue_of xs s
-
+module _ (xs : List UeRow) (u k : ℕ) (h : Apart is_free ue_of xs) where
   pub count_found : (i : ℕ) (d : UeRow) → First is_free ue_of u xs i → others_in (get_or xs i d) k ≡ others_of (contexts_in xs) u k
   count_found i d f =
-      count_same (other_in (get_or xs i d) k) (other_at (contexts_in xs) u k) 15
+      count_same (other_in (get_or xs i d) k) (other_at (contexts_in xs) u k) 1 15
       (λ j a b. ap (λ (o : Option Context). not (eqb j k) && is_some o) (sym (found_at xs u i d h f j)))
 
-  none_counted : (t : ℕ → Bool) → ((j : ℕ) → t j ≡ false) → (n : ℕ) → 0 ≡ count_to t n
-  none_counted t e n = sym (count_same t (λ j. false) n (λ j a b. e j) ∙ zeros n)
-    where
-      zeros : (n : ℕ) → count_to (λ j. false) n ≡ 0
-      zeros zero = refl
-      zeros (suc n) = let r = zeros n in omega (arith, r)
-
   pub count_absent : Absent is_free ue_of u xs → 0 ≡ others_of (contexts_in xs) u k
-  count_absent a = none_counted (other_at (contexts_in xs) u k) (λ j. and_right _ _ (ap (λ (o : Option Context). is_some o) (absent_at xs u h a j))) 15
+  count_absent a = sym (count_same (other_at (contexts_in xs) u k) (λ j. false) 1 15 (λ j b c. and_right _ _ (ap (λ (o : Option Context). is_some o) (absent_at xs u h a j))))
+
+  pub count_told : (n : ℕ) (o : Option (Bor UeRow)) → Gets is_free ue_of u xs o → MatchOption o (n ≡ 0) (λ x. n ≡ others_in x.now k) → n ≡ others_of (contexts_in xs) u k
+  count_told n None a e = e ∙ count_absent a
+  count_told n (Some x) (i, f, g) e = e ∙ ap (λ (y : UeRow). others_in y k) (g x.now) ∙ count_found i x.now f
 
   emergency_found : (i : ℕ) (d : UeRow) → First is_free ue_of u xs i → (j : ℕ) → emergency_at (contexts_in xs) u k j ≡ emergency_in (get_or xs i d) k j
   emergency_found i d f j = ap (λ (o : Option Context). not (eqb j k) && is_emergency o) (found_at xs u i d h f j)
 
-  pub lowest_found : (i : ℕ) (d : UeRow) → First is_free ue_of u xs i → (r : Option ℕ) → Lowest (emergency_in (get_or xs i d) k) r → Lowest (emergency_at (contexts_in xs) u k) r
-  lowest_found i d f None l = λ j a b. emergency_found i d f j ∙ l j a b
-  lowest_found i d f (Some m) (a, b, t, l) = (a, b, emergency_found i d f m ∙ t, λ j c e. emergency_found i d f j ∙ l j c e)
+  pub lowest_found : (i : ℕ) (d : UeRow) → First is_free ue_of u xs i → find (emergency_in (get_or xs i d) k) sessions ≡ lowest_emergency (contexts_in xs) u k
+  lowest_found i d f = find_same (emergency_in (get_or xs i d) k) (emergency_at (contexts_in xs) u k) sessions (λ j. sym (emergency_found i d f j))
 
-  pub lowest_absent : Absent is_free ue_of u xs → Lowest (emergency_at (contexts_in xs) u k) None
-  lowest_absent a = λ j b c. and_right _ _ (ap is_emergency (absent_at xs u h a j))
+  pub lowest_absent : Absent is_free ue_of u xs → None ≡ lowest_emergency (contexts_in xs) u k
+  lowest_absent a = sym (find_same (emergency_at (contexts_in xs) u k) (λ j. false) sessions (λ j. and_right _ _ (ap is_emergency (absent_at xs u h a j))))
 
 -- ---- a place is written
 
 module _ (xs : List UeRow) (i : ℕ) (d : UeRow) (before : Sound xs) where
-  held_apart : Apart is_free ue_of xs
-  held_apart = apart is_free ue_of xs before.apart
-
-  sound : (u k : ℕ) (o : Option Place) → in_bounds (option_map (context_of u k) o) ≡ true → RowFor u xs i → length (get_or xs i d).places ≡ 15 → 0 < k → k < 16 → Sound (set xs i (written (get_or xs i d) u k o))
+  sound : (u k : ℕ) (o : Option Place) → in_bounds (option_map (context_of u k) o) ≡ true → Target is_free ue_of u xs i → length (get_or xs i d).places ≡ 15 → 0 < k → k < 16 → Sound (set xs i (written (get_or xs i d) u k o))
   sound u k o e t long a b = record {
     size = length-set xs i (written (get_or xs i d) u k o) ∙ before.size;
-    apart = sole is_free ue_of _ (apart_after xs u k o i d held_apart t long a b);
+    apart = (apart_after xs u k o i d before.apart t long a b);
     bounds = λ v j.
-        ap in_bounds (lookup_after xs u k o i d held_apart t long a b v j)
+        ap in_bounds (lookup_after xs u k o i d before.apart t long a b v j)
         ∙ cond_both (eqb u v && eqb k j) (option_map (context_of u k) o) (lookup (contexts_in xs) v j) (λ r. in_bounds r ≡ true) (λ y. e) (λ n. before.bounds v j);
   }
 
@@ -80,12 +73,12 @@ module _ (xs : List UeRow) (i : ℕ) (d : UeRow) (before : Sound xs) where
     pub sound : Sound ys
     pub stored : Stored c (contexts_in xs) (contexts_in ys)
 
-  pub put_tells : (c : Context) (x : UeRow) → fits c ≡ true → RowFor c.ue xs i → x ≡ written (get_or xs i d) c.ue c.session (Some (place_of c)) → length (get_or xs i d).places ≡ 15 → Put c (set xs i x)
+  pub put_tells : (c : Context) (x : UeRow) → fits c ≡ true → Target is_free ue_of c.ue xs i → x ≡ written (get_or xs i d) c.ue c.session (Some (place_of c)) → length (get_or xs i d).places ≡ 15 → Put c (set xs i x)
   put_tells c x f t e long = subst (λ (y : UeRow). Put c (set xs i y)) (sym e) (record {
     sound = sound c.ue c.session (Some (place_of c)) f t long low high;
     stored = record {
-      at = lookup_after xs c.ue c.session (Some (place_of c)) i d held_apart t long low high;
-      size = one_more (is_some (lookup (contexts_in xs) c.ue c.session)) _ _ (size_after xs c.ue c.session (Some (place_of c)) i d held_apart t long low high);
+      at = lookup_after xs c.ue c.session (Some (place_of c)) i d before.apart t long low high;
+      size = one_more (is_some (lookup (contexts_in xs) c.ue c.session)) _ _ (size_after xs c.ue c.session (Some (place_of c)) i d before.apart t long low high);
     };
   })
     where
@@ -115,10 +108,10 @@ module _ (xs : List UeRow) (i : ℕ) (d : UeRow) (before : Sound xs) where
       stood = sym had;
       change = record {
         at = λ v j.
-            lookup_after xs w k None i d held_apart target long low high v j
+            lookup_after xs w k None i d before.apart target long low high v j
             ∙ ap (λ (m : ℕ). cond (eqb m v && eqb k j) None (lookup (contexts_in xs) v j)) key;
         size =
-            let e = size_after xs w k None i d held_apart target long low high in
+            let e = size_after xs w k None i d before.apart target long low high in
             let z = ap (λ (m : ℕ). cond {A = ℕ} (is_some (lookup (contexts_in xs) m k)) 1 0) key ∙ ap (λ (t : Bool). cond {A = ℕ} t 1 0) had in
             omega (arith, e, z);
       };
@@ -132,10 +125,10 @@ module _ (xs : List UeRow) (i : ℕ) (d : UeRow) (before : Sound xs) where
       key = first.key d
 
       had : is_some (lookup (contexts_in xs) u k) ≡ true
-      had = ap (λ (o : Option Context). is_some o) (found_at xs u i d held_apart first k) ∙ sym stood
+      had = ap (λ (o : Option Context). is_some o) (found_at xs u i d before.apart first k) ∙ sym stood
 
-      target : RowFor w xs i
-      target = subst (λ (m : ℕ). RowFor m xs i) (sym key) (inl first)
+      target : Target is_free ue_of w xs i
+      target = subst (λ (m : ℕ). Target is_free ue_of m xs i) (sym key) (inl first)
 
       range : (ltb 0 k && ltb k 16) ≡ true
       range = ⊎_elim (λ e. e) (λ e. absurd (true≢false (stood ∙ ap (λ (o : Option Context). is_some o) (out_none (get_or xs i d) k e)))) (cases_Bool (ltb 0 k && ltb k 16))
@@ -152,7 +145,7 @@ module _ (xs : List UeRow) (i : ℕ) (d : UeRow) (before : Sound xs) where
       subst (λ (ys : List UeRow). Gone u k ys false) (sym (ap (set xs i) e ∙ set-get_or xs i d)) (record {
         sound = before;
         removes = record {
-          stood = stood ∙ sym (ap (λ (o : Option Context). is_some o) (found_at xs u i d held_apart first k));
+          stood = stood ∙ sym (ap (λ (o : Option Context). is_some o) (found_at xs u i d before.apart first k));
           change = record { contexts = refl; rooms = λ v j. refl };
         };
       })

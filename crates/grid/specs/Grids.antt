@@ -1,10 +1,9 @@
 -- The contexts in rows of one UE each.
-use Rattle.std.specs.Prelude.{ℕ, zero, suc, ◌-◌, Bool, true, cond, not, ◌&&◌, ◌||◌, ◌⊎◌, List, [], ◌∷◌, is_some, Some, None, Option, MatchOption, ◌==◌, nat_lt, slice_index_or, slice_set}
+use Rattle.std.specs.Prelude.{ℕ, ◌-◌, Bool, cond, not, ◌&&◌, ◌||◌, List, is_some, None, Option, ◌==◌, nat_lt, slice_index_or, slice_set}
+use Rattle.std.specs.List.{find, count_by, filter_map, flat_map}
 use Rattle.std.specs.Option.{option_map}
-use Rattle.tables.specs.Lists.{first_that}
-use Rattle.tables.specs.Rows.{Absent, NoneFree, First, FirstFree}
 use Rattle.stores.specs.declared.context.Context.{Context}
-use Rattle.stores.specs.Contexts.{pair_fits, fits, count_to, is_emergency}
+use Rattle.stores.specs.Contexts.{pair_fits, sessions, is_emergency}
 use Rattle.grid.specs.declared.place.Place.{Place}
 use Rattle.grid.specs.declared.ue_row.UeRow.{UeRow}
 
@@ -28,7 +27,7 @@ abbrev pub other_in : UeRow → ℕ → ℕ → Bool
 other_in x k j = not (j == k) && is_some (context_at x j)
 
 abbrev pub others_in : UeRow → ℕ → ℕ
-others_in x k = count_to (other_in x k) 15
+others_in x k = count_by (other_in x k) sessions
 
 -- session j is another one than session k, and has an emergency context in the row
 abbrev pub emergency_in : UeRow → ℕ → ℕ → Bool
@@ -45,19 +44,13 @@ ue_of x = x.ue
 abbrev pub written : UeRow → ℕ → ℕ → Option Place → UeRow
 written x u k o = record { ue = u; places = slice_set x.places (k - 1) o }
 
-abbrev pub joined : Option Context → List Context → List Context
-joined None cs = cs
-joined (Some c) cs = c ∷ cs
-
--- the contexts of sessions 1 to n in the row, before others
-abbrev pub row_contexts : UeRow → ℕ → List Context → List Context
-row_contexts x zero cs = cs
-row_contexts x (suc n) cs = row_contexts x n (joined (context_at x (suc n)) cs)
+-- the contexts in the row, by session
+abbrev pub contexts_of : UeRow → List Context
+contexts_of x = filter_map (context_at x) sessions
 
 -- the contexts in the rows, by row and session
 abbrev pub contexts_in : List UeRow → List Context
-contexts_in [] = []
-contexts_in (x ∷ xs) = row_contexts x 15 (contexts_in xs)
+contexts_in xs = flat_map contexts_of xs
 
 -- the row is in use, and UE u's
 abbrev pub serves : ℕ → UeRow → Bool
@@ -65,16 +58,4 @@ serves u x = not (is_free x) && x.ue == u
 
 -- the pair is in bounds, and the UE has a row or a row is empty
 abbrev pub room_in : List UeRow → ℕ → ℕ → Bool
-room_in xs u k = pair_fits u k && (is_some (first_that (serves u) xs) || is_some (first_that is_free xs))
-
-abbrev pub in_bounds : Option Context → Bool
-in_bounds None = true
-in_bounds (Some c) = fits c
-
--- row i is UE u's, or an empty one where u has none
-abbrev pub RowFor : ℕ → List UeRow → ℕ → Type 0
-RowFor u xs i = First is_free ue_of u xs i ⊎ (FirstFree is_free xs i × Absent is_free ue_of u xs)
-
--- what looking for a row for UE u answers
-abbrev pub FindsFor : ℕ → List UeRow → Option ℕ → Type 0
-FindsFor u xs r = MatchOption r (Absent is_free ue_of u xs × NoneFree is_free xs) (RowFor u xs)
+room_in xs u k = pair_fits u k && (is_some (find (serves u) xs) || is_some (find is_free xs))

@@ -1,1 +1,4 @@
 pub mod Grids
+pub mod Places
+pub mod Rows
+pub mod Laws

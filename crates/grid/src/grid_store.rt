@@ -1,21 +1,22 @@
 // Contexts in 32 rows: a row is one UE's until its last context is removed, and then serves any UE.
 ghost use Rattle.std.specs.Prelude.{◌≡◌, ℕ, true, [], length};
-ghost use Rattle.tables.specs.Rows.{Sole, Finds};
+ghost use Rattle.tables.specs.Rows.{Apart, Finds};
 ghost use Rattle.tables.specs.Tables.{Gets};
-ghost use Rattle.stores.specs.Contexts.{lookup};
-ghost use Rattle.grid.specs.Grids.{is_free, ue_of, contexts_in, room_in, in_bounds, FindsFor};
+ghost use Rattle.stores.specs.Contexts.{in_bounds, lookup};
+ghost use Rattle.grid.specs.Grids.{is_free, ue_of, contexts_in, room_in};
+ghost use Rattle.grid.specs.Laws.{laws_of};
 
 use crate::ue_row::UeRow;
 use codes::{SessionId, UeNumber};
-use stores::{Context, Store, is_pair_in_bounds};
-use tables::{all_free, find_free, find_row};
+use stores::{Context, NoRoom, PduSession, Store};
+use tables::{all_free, find_row, find_target};
 
-// No UE has two rows in use, and no context is out of bounds.
+// No UE has two rows in use, and no context is out of bounds. The rows are an array, since a store takes no memory from a heap.
 #[derive(Drop)]
 pub struct GridStore {
     rows: [UeRow; 32],
     ghost size: { length rows ≡ 32 },
-    ghost apart: { Sole is_free ue_of rows },
+    ghost apart: { Apart is_free ue_of rows },
     ghost bounds: { (u k : ℕ) → in_bounds (lookup (contexts_in rows) u k) ≡ true },
 }
 
@@ -29,12 +30,6 @@ impl GridStore {
         }
     }
 
-    fn row_count(&self) -> usize
-        ensures { result ≡ 32 }
-    {
-        self.rows.len()
-    }
-
     // Where the UE's row is.
     fn index_of(&self, ue: UeNumber) -> Option<usize>
         ensures { Finds is_free ue_of ue self.now.rows result }
@@ -42,24 +37,11 @@ impl GridStore {
         find_row(&self.rows, &ue)
     }
 
-    // Where the UE's row is, or an empty one where it has none.
-    fn index_for(&self, ue: UeNumber) -> Option<usize>
-        ensures { FindsFor ue self.now.rows result }
-    {
-        match self.index_of(ue) {
-            Some(i) => Some(i),
-            None => find_free(&self.rows),
-        }
-    }
-
     // The UE's row.
     fn row_of(&self, ue: UeNumber) -> Option<&UeRow>
         ensures { Gets is_free ue_of ue self.now.rows result }
     {
-        match self.index_of(ue) {
-            Some(i) => Some(&self.rows[i]),
-            None => None,
-        }
+        self.index_of(ue).map(|i| &self.rows[i])
     }
 }
 
@@ -70,56 +52,47 @@ impl Store for GridStore {
 
     ghost room = { λ s u k. room_in s.rows u k };
 
+    ghost laws = { λ s. laws_of s.rows (record { size = s.size; apart = s.apart; bounds = s.bounds }) };
+
     fn floor(&self) -> usize {
-        self.row_count()
+        self.rows.len()
     }
 
-    fn find(&self, ue: UeNumber, session: SessionId) -> Option<Context> {
-        match self.row_of(ue) {
-            Some(row) => row.context(session),
-            None => None,
-        }
+    fn find(&self, session: PduSession) -> Option<Context> {
+        self.row_of(session.ue)?.context(session.id)
     }
 
-    fn has_room(&self, ue: UeNumber, session: SessionId) -> bool {
-        is_pair_in_bounds(ue, session) && self.index_for(ue).is_some()
+    #[tactic(auto, using(crate::proofs::Rooms::room_is))]
+    fn has_room(&self, session: PduSession) -> bool {
+        session.is_in_bounds() && find_target(&self.rows, &session.ue).is_some()
     }
 
     fn is_empty(&self) -> bool {
         all_free(&self.rows)
     }
 
-    fn count_others(&self, ue: UeNumber, session: SessionId) -> usize {
-        match self.row_of(ue) {
-            Some(row) => row.count_others(session),
-            None => 0,
-        }
+    fn count_others(&self, session: PduSession) -> usize {
+        self.row_of(session.ue)
+            .map_or(0, |row| row.count_others(session.id))
     }
 
-    fn lowest_other_emergency(&self, ue: UeNumber, session: SessionId) -> Option<SessionId> {
-        match self.row_of(ue) {
-            Some(row) => row.lowest_other_emergency(session),
-            None => None,
-        }
+    fn lowest_other_emergency(&self, session: PduSession) -> Option<SessionId> {
+        self.row_of(session.ue)?.lowest_other_emergency(session.id)
     }
 
-    fn put(&mut self, context: Context) -> bool {
+    fn put(&mut self, context: Context) -> Result<(), NoRoom> {
         if !context.is_in_bounds() {
-            return false;
+            return Err(NoRoom);
         }
-        match self.index_for(context.ue) {
-            Some(i) => {
-                self.rows[i].put(context);
-                true
-            }
-            None => false,
-        }
+        let i = find_target(&self.rows, &context.ue).ok_or(NoRoom)?;
+        self.rows[i].put(context);
+        Ok(())
     }
 
-    fn remove(&mut self, ue: UeNumber, session: SessionId) -> bool {
-        match self.index_of(ue) {
-            Some(i) => self.rows[i].remove(session),
-            None => false,
-        }
+    fn remove(&mut self, session: PduSession) -> bool {
+        let Some(i) = self.index_of(session.ue) else {
+            return false;
+        };
+        self.rows[i].remove(session.id)
     }
 }

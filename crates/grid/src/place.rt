@@ -13,10 +13,10 @@ pub struct Place {
     pub dnn: DnnNumber,
 }
 
-impl Place {
-    pub fn of(context: Context) -> Place
-        ensures { result ≡ place_of context }
-    {
+impl From<Context> for Place {
+    ghost from_gives = { λ c p. p ≡ place_of c };
+
+    fn from(context: Context) -> Place {
         Place {
             smf: context.smf,
             emergency: context.emergency,
@@ -24,7 +24,10 @@ impl Place {
             dnn: context.dnn,
         }
     }
+}
 
+impl Place {
+    // By two numbers and no `PduSession`: the row has the one, and the position tells the other.
     pub fn context(self, ue: UeNumber, session: SessionId) -> Context
         ensures { result ≡ context_of ue session self }
     {

@@ -1,6 +1,8 @@
 // The contexts of one UE: a place for each session.
 ghost use Rattle.std.specs.Prelude.{◌≡◌, ◌<◌, true, length, is_some, Some, None, MatchBool};
-ghost use Rattle.stores.specs.Contexts.{Lowest, pair_fits};
+ghost use Rattle.std.specs.List.{find};
+ghost use Rattle.std.proofs.Common.{rules};
+ghost use Rattle.stores.specs.Contexts.{pair_fits, sessions};
 ghost use Rattle.grid.specs.Grids.{place_of, context_at, other_in, others_in, emergency_in, is_free, ue_of, written};
 
 use crate::place::Place;
@@ -8,6 +10,7 @@ use codes::{SessionId, UeNumber};
 use stores::Context;
 use tables::Row;
 
+// The places are an array, since a store takes no memory from a heap.
 #[derive(Clone, Copy)]
 pub struct UeRow {
     ue: UeNumber,
@@ -27,13 +30,10 @@ impl UeRow {
     pub(crate) fn context(&self, session: SessionId) -> Option<Context>
         ensures { result ≡ context_at self.now session }
     {
-        if session < 1 || session > 15 {
+        if !(1..=15).contains(&session) {
             return None;
         }
-        match self.places[usize::from(session) - 1] {
-            Some(place) => Some(place.context(self.ue, session)),
-            None => None,
-        }
+        self.places[usize::from(session) - 1].map(|place| place.context(self.ue, session))
     }
 
     fn has_other(&self, session: SessionId, other: SessionId) -> bool
@@ -46,34 +46,22 @@ impl UeRow {
     pub(crate) fn count_others(&self, session: SessionId) -> usize
         ensures { result ≡ others_in self.now session }
     {
-        let mut count = 0;
-        for before in 0..15 {
-            if self.has_other(session, before + 1) {
-                count += 1;
-            }
-        }
-        count
+        (1..16)
+            .filter(|&other| self.has_other(session, other))
+            .count()
     }
 
     fn has_other_emergency(&self, session: SessionId, other: SessionId) -> bool
         ensures { result ≡ emergency_in self.now session other }
     {
-        match self.context(other) {
-            Some(context) => other != session && context.emergency,
-            None => false,
-        }
+        other != session && self.context(other).is_some_and(|context| context.emergency)
     }
 
     // The lowest session other than this one that has an emergency context.
     pub(crate) fn lowest_other_emergency(&self, session: SessionId) -> Option<SessionId>
-        ensures { Lowest (emergency_in self.now session) result }
+        ensures { result ≡ find (emergency_in self.now session) sessions }
     {
-        for other in 1..16 {
-            if self.has_other_emergency(session, other) {
-                return Some(other);
-            }
-        }
-        None
+        (1..16).find(|&other| self.has_other_emergency(session, other))
     }
 
     // Makes it the UE's row, with this at the session.
@@ -93,7 +81,7 @@ impl UeRow {
         ensures after { self.new ≡ written self.old context.ue context.session (Some (place_of context)) }
         ensures size { length self.old.places ≡ 15 }
     {
-        self.write(context.ue, context.session, Some(Place::of(context)));
+        self.write(context.ue, context.session, Some(Place::from(context)));
     }
 
     // Leaves no context of the session. True where there was one.
@@ -117,6 +105,8 @@ impl Row for UeRow {
 
     ghost named = { λ x. ue_of x };
 
+    ghost exact = { Prim.search rules };
+
     fn is_free(&self) -> bool {
         // no session is 0, so that this counts them all
         self.count_others(0) == 0
@@ -124,10 +114,6 @@ impl Row for UeRow {
 
     fn key(&self) -> UeNumber {
         self.ue
-    }
-
-    fn has_key(&self, key: &UeNumber) -> bool {
-        self.ue == *key
     }
 
     fn clear(&mut self) {

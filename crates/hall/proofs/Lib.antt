@@ -1,3 +1,1 @@
-pub mod Shown
-pub mod Worded
 pub mod Lawful

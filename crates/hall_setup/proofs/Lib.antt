@@ -1,5 +1,3 @@
-pub mod Shown
-pub mod Worded
 pub mod Named
 pub mod Setting
 pub mod Lawful

@@ -1,15 +1,14 @@
 -- What comes of setting a control line, from what the table says of it.
 use Rattle.std.proofs.Common.{◌≡◌, ℕ, ◌+◌, ◌≤◌, Bool, true, false, cond, eqb, List, [], ◌∷◌, length, is_some, Some, None, Ok, Err, Option, Result, sym, refl, ap, ◌∙◌, subst, arith, MatchResult}
-use Rattle.std.proofs.lemmas.Bool.{eq-eqb, ne_eqb}
+use Rattle.std.proofs.lemmas.Bool.{ne_eqb}
 use Rattle.codes.specs.declared.refusal.Refusal.{Refusal}
-use Rattle.codes.specs.declared.refusal.Refusal.TheVariants.{ControlFull}
+use Rattle.codes.specs.declared.refusal.Refusal.TheVariants.{ControlFull, ControlKind}
 use Rattle.control.specs.Controls.{Set, Full, Setting}
 use Rattle.control.specs.Lines.{is_free, back_off_of, line_count}
 use Rattle.control.specs.declared.control_key.ControlKey.{ControlKey}
 use Rattle.control.specs.declared.control_row.ControlRow.{ControlRow}
-use Rattle.hall_setup.specs.declared.outcome.Outcome.{Outcome}
-use Rattle.hall_setup.specs.declared.outcome.Outcome.TheVariants.{Accepted, Refused}
-use Rattle.hall_setup.specs.Effects.{set_outcome, RowsSet}
+use Rattle.hall_setup.specs.Ends.{Outcome, Accepted, Refused}
+use Rattle.hall_setup.specs.Effects.{set_outcome}
 
 at_most : (b : Bool) (n m : ℕ) → n ≤ m → cond b 0 1 + n ≤ m + 1
 at_most true n m h = omega arith
@@ -36,15 +35,7 @@ module _ (k : ControlKey) (xs : List ControlRow) where
       let room : line_count xs ≡ length xs → ⊥ = λ full. omega (arith, more, full, few_lines ys, s.rows) in
       sym (by_tests false false e (ne_eqb _ _ room))
 
-  set_full : (ys : List ControlRow) (e : Refusal) → Full k xs ys e → Refused e ≡ set_outcome (Some k) xs
-  set_full ys e f = ap Refused f.refusal ∙ sym (by_tests false true (ap is_some f.new) (eq-eqb _ _ f.full))
-
-pub set_said : (key : Option ControlKey) (b : ℕ) (xs ys : List ControlRow) (r : Result (Unit {0}) Refusal) (o : Outcome) → Setting key b xs ys r → MatchResult r (λ _. o ≡ Accepted) (λ e. o ≡ Refused e) → o ≡ set_outcome key xs
-set_said None b xs ys r o s h = subst (λ q. MatchResult q (λ _. o ≡ Accepted) (λ e. o ≡ Refused e)) s.0 h
-set_said (Some k) b xs ys (Ok u) o s h = h ∙ set_fits k xs b ys _ refl s
-set_said (Some k) b xs ys (Err e) o s h = h ∙ set_full k xs ys e s
-
-pub set_done : (key : Option ControlKey) (b : ℕ) (xs ys : List ControlRow) (r : Result (Unit {0}) Refusal) (o : Outcome) → Setting key b xs ys r → MatchResult r (λ _. o ≡ Accepted) (λ e. o ≡ Refused e) → RowsSet key b xs o ys
-set_done None b xs ys r o s h = s.1
-set_done (Some k) b xs ys (Ok u) o s h = subst (λ p. RowsSet (Some k) b xs p ys) (sym h) s
-set_done (Some k) b xs ys (Err e) o s h = subst (λ p. RowsSet (Some k) b xs p ys) (sym h) s.same
+-- where the table set a line, that is the outcome
+pub set_accepted : (key : Option ControlKey) (b : ℕ) (xs ys : List ControlRow) (r : Result (Unit {0}) Refusal) (u : Unit {0}) → Setting key b xs ys r → r ≡ Ok u → Accepted ≡ set_outcome key xs
+set_accepted None b xs ys r u s e = let z : Err ControlKind ≡ Ok u = sym s.0 ∙ e in cc
+set_accepted (Some k) b xs ys r u s e = set_fits k xs b ys _ refl (subst (λ q. MatchResult q (λ _. Set k b xs ys) (λ e. Full k xs ys e)) e s)

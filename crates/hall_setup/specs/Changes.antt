@@ -1,23 +1,24 @@
 -- What a command changes in the hall, as its words say it.
-use Rattle.std.specs.Prelude.{ℕ, Bool, true, false, cond, List, [], ◌∷◌, length, Some, None, codes, Option, ◌==◌, nat_lt, slice_index_or}
+use Rattle.std.specs.Prelude.{ℕ, cond, List, [], ◌∷◌, length, Some, None, codes, Option, ◌==◌, nat_lt, slice_index_or}
 use Rattle.std.specs.Option.{option_map}
 use Rattle.std.specs.Str.{bytes_eq}
+use Rattle.control.specs.declared.control_numbers.ControlNumbers.{ControlNumbers}
 use Rattle.directories.specs.declared.service_line.ServiceLine.{ServiceLine}
 use Rattle.scenario.specs.Number.{number_in}
 use Rattle.scenario.specs.Octets.{octet_in, octets_in}
 use Rattle.scenario.specs.Slice.{slice_in}
 use Rattle.hall_setup.specs.declared.change.StoreKind.{StoreKind}
 use Rattle.hall_setup.specs.declared.change.StoreKind.TheVariants.{Flat, Grid}
-use Rattle.hall_setup.specs.declared.change.DirectoryKind.{DirectoryKind}
-use Rattle.hall_setup.specs.declared.change.DirectoryKind.TheVariants as kinds
-use Rattle.hall_setup.specs.declared.change.ControlNumbers.{ControlNumbers}
+use Rattle.hall_setup.specs.declared.directory_kind.DirectoryKind.{DirectoryKind}
+use Rattle.hall_setup.specs.declared.directory_state.DirectoryState.{DirectoryState}
+use Rattle.hall_setup.specs.Kinds.{kind_in, state_in}
 
 pub data Change : Type 0 where
   book : List (List ℕ) → Change
   store : StoreKind → Change
   directory : DirectoryKind → Change
   serve : ServiceLine → Change
-  mark : Bool → Change
+  mark : DirectoryState → Change
   control : ℕ → Change
   set : ControlNumbers → ℕ → Change
   clear : ControlNumbers → Change
@@ -39,7 +40,7 @@ abbrev pub at : List (List ℕ) → ℕ → List ℕ
 at words i = slice_index_or words i []
 
 -- of just so many words
-abbrev pub of_one : (List ℕ → Option Change) → List (List ℕ) → Option Change
+abbrev pub of_one : {X : Type 0} → (List ℕ → Option X) → List (List ℕ) → Option X
 of_one f words = cond (length words == 1) (f (at words 0)) None
 
 abbrev pub of_three : (List ℕ → List ℕ → List ℕ → Option Change) → List (List ℕ) → Option Change
@@ -74,29 +75,22 @@ store_words words =
     cond (length words == 1) (grid_of (at words 0))
     (cond (length words == 2) (flat_of (at words 0) (at words 1)) None)
 
-abbrev pub directory_of : List ℕ → Option Change
-directory_of kind =
-    cond (bytes_eq kind (codes "list")) (Some (directory kinds.List))
-    (cond (bytes_eq kind (codes "turning")) (Some (directory kinds.Turning)) None)
-
 abbrev pub directory_words : List (List ℕ) → Option Change
-directory_words words = of_one directory_of words
+directory_words words = option_map directory (of_one kind_in words)
+
+unfoldable pub line_of : List ℕ → List ℕ → List ℕ → Option ServiceLine
+line_of s n m =
+    where_some (slice_in s) (λ slice. where_some (byte_in n) (λ dnn. where_some (byte_in m) (λ smf.
+    Some (record { slice = slice; dnn = dnn; smf = smf }))))
 
 abbrev pub serve_of : List ℕ → List ℕ → List ℕ → Option Change
-serve_of s n m =
-    where_some (slice_in s) (λ slice. where_some (byte_in n) (λ dnn. where_some (byte_in m) (λ smf.
-    Some (serve (record { slice = slice; dnn = dnn; smf = smf })))))
+serve_of s n m = where_some (line_of s n m) (λ line. Some (serve line))
 
 abbrev pub serve_words : List (List ℕ) → Option Change
 serve_words words = of_three serve_of words
 
-abbrev pub mark_of : List ℕ → Option Change
-mark_of state =
-    cond (bytes_eq state (codes "open")) (Some (mark true))
-    (cond (bytes_eq state (codes "closed")) (Some (mark false)) None)
-
 abbrev pub mark_words : List (List ℕ) → Option Change
-mark_words words = of_one mark_of words
+mark_words words = option_map mark (of_one state_in words)
 
 abbrev pub control_of : List ℕ → Option Change
 control_of rows = where_some (number_in rows) (λ n. Some (control n))

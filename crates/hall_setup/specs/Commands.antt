@@ -1,7 +1,7 @@
 -- What the words of a line ask for.
 use Rattle.std.specs.Prelude.{ℕ, List, [], ◌∷◌, None, Option}
 use Rattle.std.specs.Option.{option_map}
-use Rattle.scenario.specs.Octets.{octets_in}
+use Rattle.playing.specs.Lines.{operand_in}
 use Rattle.hall_setup.specs.declared.verb.Verb.{Verb}
 use Rattle.hall_setup.specs.declared.verb.Verb.TheVariants.{Read, Book, Store, Directory, Serve, Mark, Control, Set, Clear}
 use Rattle.hall_setup.specs.Changes.{Change, where_some, book_words, store_words, directory_words, serve_words, mark_words, control_words, set_words, clear_words}
@@ -11,15 +11,9 @@ pub data Command : Type 0 where
   read : List ℕ → Command
   change : Change → Command
 
--- the words behind `read`
-abbrev pub read_words : List (List ℕ) → Option Command
-read_words [] = None
-read_words (word ∷ []) = option_map read (octets_in word)
-read_words (word ∷ more ∷ rest) = None
-
 -- a verb, and the words behind it
 abbrev pub command_of : Verb → List (List ℕ) → Option Command
-command_of Read words = read_words words
+command_of Read words = option_map read (operand_in words)
 command_of Book words = option_map change (book_words words)
 command_of Store words = option_map change (store_words words)
 command_of Directory words = option_map change (directory_words words)

@@ -7,8 +7,6 @@ use Rattle.codes.specs.declared.refusal.Refusal.TheVariants.{Opening, ControlKin
 use Rattle.names.specs.Names.{GoodNames}
 use Rattle.names.specs.OwnNames.{own_names}
 use Rattle.names.specs.declared.book.Book.{Book}
-use Rattle.names.specs.declared.book_error.BookError.{BookError}
-use Rattle.names.specs.declared.book_error.BookError.TheVariants as book_errors
 use Rattle.flat.specs.Held as flat
 use Rattle.control.specs.Controls.{Set, Cleared}
 use Rattle.control.specs.Keys.{key_in}
@@ -20,25 +18,14 @@ use Rattle.directories.specs.Additions.{Added, Joined}
 use Rattle.directories.specs.Lines.{lines_refuse}
 use Rattle.directories.specs.Sets.{sets_refuse}
 use Rattle.directories.specs.declared.service_line.ServiceLine.{ServiceLine}
-use Rattle.hall_setup.specs.declared.change.DirectoryKind.{DirectoryKind}
-use Rattle.hall_setup.specs.declared.change.DirectoryKind.TheVariants as asked_kinds
+use Rattle.hall_setup.specs.declared.directory_kind.DirectoryKind.{DirectoryKind}
+use Rattle.hall_setup.specs.declared.directory_kind.DirectoryKind.TheVariants as asked_kinds
 use Rattle.hall_setup.specs.declared.change.StoreKind.{StoreKind}
 use Rattle.hall_setup.specs.declared.change.StoreKind.TheVariants.{Flat, Grid}
 use Rattle.hall_setup.specs.declared.directory.HallDirectory.{HallDirectory}
 use Rattle.hall_setup.specs.declared.directory.HallDirectory.TheVariants as kinds
-use Rattle.hall_setup.specs.declared.outcome.Outcome.{Outcome}
-use Rattle.hall_setup.specs.declared.outcome.Outcome.TheVariants.{Accepted, Refused, Misplaced}
+use Rattle.hall_setup.specs.Ends.{Outcome, Accepted, Refused, Misplaced}
 use Rattle.hall_setup.specs.Changes.{Change, book, store, directory, serve, mark, control, set, clear}
-
--- a book's error, as of all that is set up
-abbrev pub setup_error_of : BookError → SetupError
-setup_error_of (book_errors.Refused r) = setup.Refused r
-setup_error_of book_errors.OutOfMemory = setup.OutOfMemory
-
--- the refusal of what was not made, where it was not for want of memory
-abbrev pub RefusalOf : SetupError → Outcome → Type 0
-RefusalOf (setup.Refused r) o = o ≡ Refused r
-RefusalOf setup.OutOfMemory o = ⊥
 
 -- good names make a book, and all others are refused
 abbrev pub BookOutcome : List (List ℕ) → Outcome → Type 0

@@ -1,8 +1,9 @@
 -- What stands in the hall after a change.
 use Rattle.std.specs.Prelude.{◌≡◌, Some}
 use Rattle.hall_setup.specs.declared.hall.Hall.{Hall}
-use Rattle.hall_setup.specs.declared.outcome.Outcome.{Outcome}
+use Rattle.hall_setup.specs.Ends.{Outcome}
 use Rattle.hall_setup.specs.Changes.{Change, book, store, directory, serve, mark, control, set, clear}
+use Rattle.hall_setup.specs.Kinds.{is_open}
 use Rattle.hall_setup.specs.Effects.{after, BookAfter, NewDirectory, Served, MarkedIf}
 
 abbrev pub SameBook : Hall → Hall → Type 0
@@ -28,7 +29,7 @@ HallAfter h (directory kind) o g =
 HallAfter h (serve line) o g =
     Served line o h.directory g.directory × SameBook h g × SameStore h g × SameRows h g
 HallAfter h (mark is) o g =
-    MarkedIf is h.directory g.directory × SameBook h g × SameStore h g × SameRows h g
+    MarkedIf (is_open is) h.directory g.directory × SameBook h g × SameStore h g × SameRows h g
 HallAfter h (control rows) o g =
     (g.wanted_rows ≡ after o (Some rows) h.wanted_rows) × SameBook h g × SameStore h g × SameDirectory h g
 HallAfter h (set line octet) o g = g ≡ h

@@ -1,8 +1,10 @@
 pub mod Verbs
+pub mod Kinds
 pub mod Changes
 pub mod Asked
 pub mod Commands
 pub mod Readings
+pub mod Ends
 pub mod Outcomes
 pub mod Effects
 pub mod Halls

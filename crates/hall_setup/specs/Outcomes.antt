@@ -1,13 +1,12 @@
 -- What the outcome of a change prints.
-use Rattle.std.specs.Prelude.{ℕ, true, false, List, ◌++◌, length, codes, decimal}
+use Rattle.std.specs.Prelude.{◌≡◌, ℕ, List, ◌++◌, length, Some, None, codes, decimal, Option}
 use Rattle.codes.specs.Refusals.{refusal_number}
 use Rattle.hall_setup.specs.declared.change.StoreKind.TheVariants.{Flat, Grid}
-use Rattle.hall_setup.specs.declared.change.DirectoryKind.TheVariants as kinds
-use Rattle.hall_setup.specs.declared.outcome.Outcome.{Outcome}
-use Rattle.hall_setup.specs.declared.outcome.Outcome.TheVariants.{Accepted, Refused, Misplaced}
+use Rattle.hall_setup.specs.Ends.{Outcome, Accepted, Refused, Misplaced}
 use Rattle.hall_setup.specs.declared.verb.Verb.{Verb}
 use Rattle.hall_setup.specs.declared.verb.Verb.TheVariants as verbs
 use Rattle.hall_setup.specs.Changes.{Change, book, store, directory, serve, mark, control, set, clear}
+use Rattle.hall_setup.specs.Kinds.{kind_word, state_word}
 use Rattle.hall_setup.specs.Verbs.{verb_word}
 
 abbrev pub verb_of : Change → Verb
@@ -24,11 +23,9 @@ abbrev pub accepted_line : Change → List ℕ
 accepted_line (book names) = codes "book " ++ decimal (length names)
 accepted_line (store (Flat rows)) = codes "store flat " ++ decimal rows
 accepted_line (store Grid) = codes "store grid"
-accepted_line (directory kinds.List) = codes "directory list"
-accepted_line (directory kinds.Turning) = codes "directory turning"
+accepted_line (directory kind) = codes "directory " ++ kind_word kind
 accepted_line (serve line) = codes "serve"
-accepted_line (mark true) = codes "mark open"
-accepted_line (mark false) = codes "mark closed"
+accepted_line (mark state) = codes "mark " ++ state_word state
 accepted_line (control rows) = codes "control " ++ decimal rows
 accepted_line (set line octet) = codes "set"
 accepted_line (clear line) = codes "clear"
@@ -44,3 +41,8 @@ abbrev pub outcome_line : ℕ → Change → Outcome → List ℕ
 outcome_line number c Accepted = accepted_line c
 outcome_line number c (Refused r) = refused_line (verb_of c) (refusal_number r)
 outcome_line number c Misplaced = error_line number
+
+-- s is the line of the outcome, where there is one
+abbrev pub Tells : ℕ → Change → Option Outcome → List ℕ → Type 0
+Tells number c None s = ⊥
+Tells number c (Some o) s = s ≡ outcome_line number c o

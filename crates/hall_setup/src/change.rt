@@ -3,29 +3,18 @@ ghost use Rattle.std.specs.Prelude.{◌≡◌};
 ghost use Rattle.hall_setup.specs.Asked.{wanted};
 ghost use Rattle.hall_setup.specs.Outcomes.{verb_of};
 
+use crate::directory_kind::DirectoryKind;
+use crate::directory_state::DirectoryState;
 use crate::verb::Verb;
-use codes::{DnnNumber, SliceCode};
+use control::ControlNumbers;
 use directories::ServiceLine;
 
+// Both are makes of a store, so this is no `Option` of rows.
 #[derive(Clone, Copy)]
 pub(crate) enum StoreKind {
     /// So many rows.
     Flat(usize),
     Grid,
-}
-
-#[derive(Clone, Copy)]
-pub(crate) enum DirectoryKind {
-    List,
-    Turning,
-}
-
-// A control line by its numbers, whether or not the kind is one that there is.
-#[derive(Clone, Copy)]
-pub(crate) struct ControlNumbers {
-    pub(crate) kind: u8,
-    pub(crate) slice: SliceCode,
-    pub(crate) dnn: DnnNumber,
 }
 
 #[derive(Drop)]
@@ -38,7 +27,7 @@ pub(crate) enum Change {
     /// One more line of the directory.
     Serve(ServiceLine),
     /// The turning directory is opened, or closed.
-    Mark(bool),
+    Mark(DirectoryState),
     /// A new control table of so many rows.
     Control(usize),
     /// A control line with its back-off octet.

@@ -2,8 +2,7 @@
 ghost use Rattle.std.specs.Prelude.{◌≡◌, map, IfOk};
 ghost use Rattle.std.specs.Option.{option_map};
 ghost use Rattle.scenario.specs.Words.{text};
-ghost use Rattle.hall_setup.specs.Asked.{wanted};
-ghost use Rattle.hall_setup.specs.Commands.{change, read_words, command_of, command_words};
+ghost use Rattle.hall_setup.specs.Commands.{command_of, command_words};
 ghost use Rattle.hall_setup.specs.Readings.{asked};
 
 use crate::change::Change;
@@ -12,7 +11,7 @@ use crate::parse_change::{
     parse_store,
 };
 use crate::verb::Verb;
-use scenario::parse_octets;
+use playing::read_operand;
 use std::alloc::{AllocError, Global};
 
 #[derive(Drop)]
@@ -23,34 +22,12 @@ pub(crate) enum Command {
     Change(Change),
 }
 
-// `words` are those behind `read`.
-fn parse_read(heap: Global, words: &[&[u8]]) -> Result<Option<Command>, AllocError>
-    ensures { IfOk result (λ o. option_map asked o ≡ read_words (map text words.now)) }
-{
-    if words.len() != 1 {
-        return Ok(None);
-    }
-    match parse_octets(heap, words[0])? {
-        Some(octets) => Ok(Some(Command::Read(octets))),
-        None => Ok(None),
-    }
-}
-
-fn change_command(parsed: Option<Change>) -> Option<Command>
-    ensures { option_map asked result ≡ option_map change (option_map wanted parsed) }
-{
-    match parsed {
-        Some(change) => Some(Command::Change(change)),
-        None => None,
-    }
-}
-
 // The command that a verb makes with the words behind it.
 fn parse_behind(heap: Global, verb: Verb, words: &[&[u8]]) -> Result<Option<Command>, AllocError>
     ensures { IfOk result (λ o. option_map asked o ≡ command_of verb (map text words.now)) }
 {
     let change = match verb {
-        Verb::Read => return parse_read(heap, words),
+        Verb::Read => return Ok(read_operand(heap, words)?.map(Command::Read)),
         Verb::Book => parse_book(heap, words)?,
         Verb::Store => parse_store(words),
         Verb::Directory => parse_directory(words),
@@ -60,18 +37,18 @@ fn parse_behind(heap: Global, verb: Verb, words: &[&[u8]]) -> Result<Option<Comm
         Verb::Set => parse_set(words),
         Verb::Clear => parse_clear(words),
     };
-    Ok(change_command(change))
+    Ok(change.map(Command::Change))
 }
 
 // The command that the words of a line make, if they make one.
 pub(crate) fn parse_command(heap: Global, words: &[&[u8]]) -> Result<Option<Command>, AllocError>
     ensures { IfOk result (λ o. option_map asked o ≡ command_words (map text words.now)) }
 {
-    let Some((word, rest)) = words.split_first() else {
+    let Some((word, operands)) = words.split_first() else {
         return Ok(None);
     };
-    match Verb::from_word(*word) {
-        Some(verb) => parse_behind(heap, verb, rest),
-        None => Ok(None),
-    }
+    let Some(verb) = Verb::from_word(*word) else {
+        return Ok(None);
+    };
+    parse_behind(heap, verb, operands)
 }

@@ -1,10 +1,11 @@
 // The directory that a scenario asked for.
 ghost use Rattle.std.specs.Prelude.{◌≡◌, false, MatchResult};
-ghost use Rattle.hall_setup.specs.Effects.{refuses, turns, NotAdded, SameLines, MoreLines, Marked};
+ghost use Rattle.hall_setup.specs.Effects.{refuses, NotAdded, SameLines, MoreLines};
 
 use codes::SetupError;
 use directories::{ListDirectory, ServiceLine, TurningDirectory};
 
+// An enum and no `dyn Directory`, since `add` and `mark` are no calls of that trait.
 #[derive(Drop)]
 pub(crate) enum HallDirectory {
     List(ListDirectory),
@@ -19,20 +20,6 @@ impl HallDirectory {
         match self {
             HallDirectory::List(directory) => directory.add(line),
             HallDirectory::Turning(directory) => directory.add(line),
-        }
-    }
-
-    // Opens or closes it. False where it is none that can be.
-    pub(crate) fn mark(&mut self, open: bool) -> bool
-        ensures can { result ≡ turns self.old }
-        ensures marked { Marked self.old «open» self.new }
-    {
-        match self {
-            HallDirectory::List(_) => false,
-            HallDirectory::Turning(directory) => {
-                directory.mark(open);
-                true
-            }
         }
     }
 }

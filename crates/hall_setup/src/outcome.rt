@@ -1,41 +1,16 @@
-// What came of a change, and the line that says so.
+// The lines that say what came of a command.
 ghost use Rattle.std.specs.Prelude.{◌≡◌, IfOk, string_bytes};
 ghost use Rattle.codes.specs.Refusals.{refusal_number};
 ghost use Rattle.hall_setup.specs.Asked.{wanted};
-ghost use Rattle.hall_setup.specs.Changes.{directory, mark};
-ghost use Rattle.hall_setup.specs.Outcomes.{accepted_line, refused_line, error_line, outcome_line};
+ghost use Rattle.hall_setup.specs.Ends.{outcome_of};
+ghost use Rattle.hall_setup.specs.Outcomes.{accepted_line, error_line, refused_line, Tells};
 
-use crate::change::{Change, DirectoryKind, StoreKind};
+use crate::change::{Change, StoreKind};
+use crate::not_done::NotDone;
 use crate::verb::Verb;
+use crate::word::Word;
 use codes::Refusal;
 use std::alloc::{AllocError, Global};
-
-#[derive(Clone, Copy)]
-pub(crate) enum Outcome {
-    Accepted,
-    Refused(Refusal),
-    /// It came before what it needs, and changed nothing.
-    Misplaced,
-}
-
-fn directory_line(heap: Global, kind: DirectoryKind) -> Result<String, AllocError>
-    ensures { IfOk result (λ s. string_bytes s ≡ accepted_line (directory kind)) }
-{
-    match kind {
-        DirectoryKind::List => format!(in heap; "directory list"),
-        DirectoryKind::Turning => format!(in heap; "directory turning"),
-    }
-}
-
-fn mark_line(heap: Global, open: bool) -> Result<String, AllocError>
-    ensures { IfOk result (λ s. string_bytes s ≡ accepted_line (mark «open»)) }
-{
-    if open {
-        format!(in heap; "mark open")
-    } else {
-        format!(in heap; "mark closed")
-    }
-}
 
 // What an accepted change prints.
 fn accepted_line(heap: Global, change: &Change) -> Result<String, AllocError>
@@ -48,19 +23,20 @@ fn accepted_line(heap: Global, change: &Change) -> Result<String, AllocError>
         }
         Change::Store(StoreKind::Flat(rows)) => format!(in heap; "store flat {rows}"),
         Change::Store(StoreKind::Grid) => format!(in heap; "store grid"),
-        Change::Directory(kind) => directory_line(heap, *kind),
+        Change::Directory(kind) => format!(in heap; "directory {}", Word(*kind)),
         Change::Serve(_) => format!(in heap; "serve"),
-        Change::Mark(open) => mark_line(heap, *open),
+        Change::Mark(state) => format!(in heap; "mark {}", Word(*state)),
         Change::Control(rows) => format!(in heap; "control {rows}"),
         Change::Set(_, _) => format!(in heap; "set"),
         Change::Clear(_) => format!(in heap; "clear"),
     }
 }
 
-pub(crate) fn refused_line(heap: Global, verb: Verb, refusal: Refusal) -> Result<String, AllocError>
+fn refused_line(heap: Global, verb: Verb, refusal: Refusal) -> Result<String, AllocError>
     ensures { IfOk result (λ s. string_bytes s ≡ refused_line verb (refusal_number refusal)) }
 {
-    let number = refusal.number();
+    let verb = Word(verb);
+    let number = u8::from(refusal);
     format!(in heap; "{verb} refused {number}")
 }
 
@@ -76,13 +52,14 @@ pub(crate) fn outcome_line(
     heap: Global,
     number: u64,
     change: &Change,
-    outcome: Outcome,
+    done: Result<(), NotDone>,
 ) -> Result<String, AllocError>
-    ensures { IfOk result (λ s. string_bytes s ≡ outcome_line number (wanted change.now) outcome) }
+    ensures { IfOk result (λ s. Tells number (wanted change.now) (outcome_of done) (string_bytes s)) }
 {
-    match outcome {
-        Outcome::Accepted => accepted_line(heap, change),
-        Outcome::Refused(refusal) => refused_line(heap, change.verb(), refusal),
-        Outcome::Misplaced => error_line(heap, number),
+    match done {
+        Ok(()) => accepted_line(heap, change),
+        Err(NotDone::Refused(refusal)) => refused_line(heap, change.verb(), refusal),
+        Err(NotDone::Misplaced) => error_line(heap, number),
+        Err(NotDone::OutOfMemory) => Err(AllocError),
     }
 }

@@ -1,12 +1,22 @@
 -- Names, and the search for one.
-use Rattle.std.proofs.Common.{◌≡◌, ℕ, suc, ◌+◌, ◌-◌, ◌<◌, ◌≤◌, Bool, true, false, cond, ◌&&◌, List, [], ◌∷◌, ◌++◌, length, get_or, take, drop, vec_items, Decides, sym, refl, ap, ◌∙◌, subst, arith, Bor, rules, below_more}
-use Rattle.std.proofs.lemmas.List.{at_drop_more, at_drop_all, drop_more, drop_all, get_or-map, get_or-take, take-map, take_more, map_push, length-map, length-take-le}
-use Rattle.std.proofs.lemmas.Bool.{cond-true, cond-false, and_left, and_right}
-use Rattle.std.proofs.lemmas.Bool.Decides.{Decides-at}
+use Rattle.std.specs.Iterator.Runs.{Run, RelatesRuns}
+use Rattle.std.specs.Option.{IsSomeRelated, IsSomeAnd, IfSome}
+use Rattle.std.specs.declared.alloc.AllocError.{AllocError}
+use Rattle.std.proofs.Common.{◌≡◌, ℕ, suc, ◌+◌, ◌-◌, ◌<◌, ◌≤◌, Bool, true, false, cond, not, ◌&&◌, ltb, List, [], ◌∷◌, map, length, get_or, take, Some, None, Ok, Option, Result, position, vec_items, Decides, sym, refl, ap, ◌∙◌, subst, arith, Bor, rules}
+use Rattle.std.specs.List.{list_all, zip, position_or_len, position_from, range_with_len, AllWithin, HoldsAt}
+use Rattle.std.specs.Bool.{MatchBool}
+use Rattle.std.proofs.lemmas.Grind.{common_steps}
+use Rattle.std.proofs.lemmas.List.{ext_get_or, get_or-map, get_or-take, take-map, length-map, length-take-le}
+use Rattle.std.proofs.lemmas.List.FromFn.{length-range_with_len, get_or-range_with_len}
+use Rattle.std.proofs.lemmas.List.Quantifiers.{position-Some}
+use Rattle.std.proofs.lemmas.List.Sums.{fails_before_first}
+use Rattle.std.proofs.lemmas.Iterator.Adapters.{position_from-zero}
+use Rattle.std.proofs.lemmas.Bool.{and_right, false≢true}
+use Rattle.std.proofs.lemmas.Bool.Decides.{Decides-at, nat_tests}
 use Rattle.std.proofs.lemmas.Slice.Eq.{IsBytesEq, compares_Decides}
 use Rattle.names.specs.declared.name.Name.{Name}
 use Rattle.names.specs.OwnNames.{own_names, lent_names}
-use Rattle.names.specs.Names.{same_octet, same_name, Same, names_of, number_from, number_of, Numbers, Follows, GoodNames}
+use Rattle.names.specs.Names.{same_octet, same_name, Same, names_of, numbered, number_from, number_of, Numbers, Follows, FollowsEarlier, GoodNames}
 
 same_name_compares : IsBytesEq same_name
 unfolding same_name
@@ -25,82 +35,59 @@ other_length [] (y ∷ ys) h = refl
 other_length (x ∷ xs) [] h = refl
 other_length (x ∷ xs) (y ∷ ys) h = and_right _ _ (other_length xs ys (λ e. h (ap suc e)))
 
--- two names of one length, of which the first i octets are the same
-pub record Alike (xs ys : List ℕ) (i : ℕ) : Type 0 where
-  pub long : length xs ≡ length ys
-  pub rest : same_name (drop i xs) (drop i ys) ≡ same_name xs ys
+-- two names of one length, octet by octet
+pub same_in_pairs : (xs ys : List ℕ) → length xs ≡ length ys → list_all (λ p. same_octet p.0 p.1) (zip xs ys) ≡ same_name xs ys
+unfolding same_name
+same_in_pairs [] [] h = refl
+same_in_pairs [] (y ∷ ys) h = absurd (omega arith)
+same_in_pairs (x ∷ xs) [] h = absurd (omega arith)
+same_in_pairs (x ∷ xs) (y ∷ ys) h = ap (λ b. same_octet x y && b) (same_in_pairs xs ys (omega arith))
 
-module _ (xs ys : List ℕ) (i : ℕ) (h : Alike xs ys i) where
-  at_octet : i < length xs → same_name xs ys ≡ (same_octet (get_or xs i 0) (get_or ys i 0) && same_name (drop (i + 1) xs) (drop (i + 1) ys))
-  unfolding same_name
-  at_octet within =
-      let also : i < length ys = omega (arith, h.long) in
-      sym h.rest ∙ (λ k. same_name (drop_more xs i 0 within k) (drop_more ys i 0 also k))
+-- the place of the first name that is the same as x
+abbrev place_of : List (List ℕ) → List ℕ → Option ℕ
+place_of names x = position (λ name. same_name name x) names
 
-  pub alike_more : i < length xs → same_octet (get_or xs i 0) (get_or ys i 0) ≡ true → Alike xs ys (i + 1)
-  alike_more within e = record { long = h.long; rest = sym (at_octet within ∙ ap (λ b. b && same_name (drop (i + 1) xs) (drop (i + 1) ys)) e) }
+first_after-map : {X Y : Type 0} (p : Y → Bool) (f : X → Y) (xs : List X) → position_or_len p (map f xs) ≡ position_or_len (λ x. p (f x)) xs
+first_after-map p f [] = refl
+first_after-map p f (x ∷ xs) = ap (λ n. cond (not (p (f x))) (1 + n) 0) (first_after-map p f xs)
 
-  pub unlike : i < length xs → same_octet (get_or xs i 0) (get_or ys i 0) ≡ false → same_name xs ys ≡ false
-  unlike within e = at_octet within ∙ and_left _ _ e
+pub position-map : {X Y : Type 0} (p : Y → Bool) (f : X → Y) (xs : List X) → position p (map f xs) ≡ position (λ x. p (f x)) xs
+position-map p f xs = (λ i. cond (ltb (first_after-map p f xs i) (length-map xs f i)) (Some (first_after-map p f xs i)) None)
 
-  pub all_alike : length xs ≤ i → same_name xs ys ≡ true
-  unfolding same_name
-  all_alike end = sym h.rest ∙ (λ k. same_name (drop_all i xs end k) (drop_all i ys (omega (arith, h.long)) k))
+-- ---- the first name that is the same
 
--- none of the first i names is the same as x
-pub record Searched (names : List (List ℕ)) (x : List ℕ) (i : ℕ) : Type 0 where
-  pub rest : number_of names x ≡ number_from (suc i) (drop i names) x
-  pub other : (k : ℕ) → k < i → same_name (get_or names k []) x ≡ false
+number_at : (names : List (List ℕ)) (x : List ℕ) (k : ℕ) → number_from (suc k) names x ≡ numbered (position_from (λ name. same_name name x) k names)
+number_at [] x k = refl
+number_at (name ∷ names) x k = grind (arith, common_steps, number_at names x (k + 1))
 
 module _ (names : List (List ℕ)) (x : List ℕ) where
-  pub searched_none : Searched names x 0
-  searched_none = record { rest = refl; other = λ k h. absurd (omega arith) }
+  none_at : place_of names x ≡ None → (i : ℕ) → i < length names → same_name (get_or names i []) x ≡ false
+  none_at h i within =
+      let all : length names ≤ position_or_len (λ name. same_name name x) names = grind (arith, nat_tests, common_steps) in
+      fails_before_first (λ name. same_name name x) names i [] (omega arith)
 
-  -- at the name of index i
-  at_name : (i : ℕ) → i < length names → Searched names x i → number_of names x ≡ cond (same_name (get_or names i []) x) (suc i) (number_from (suc (suc i)) (drop (i + 1) names) x)
-  at_name i h s = s.rest ∙ at_drop_more (λ ns. number_from (suc i) ns x) names i [] h
-
-  pub searched_more : (i : ℕ) → i < length names → Searched names x i → same_name (get_or names i []) x ≡ false → Searched names x (i + 1)
-  searched_more i h s other = record {
-    rest = at_name i h s ∙ cond-false _ _ _ other ∙ (let n : suc (suc i) ≡ suc (i + 1) = omega arith in ap (λ k. number_from k (drop (i + 1) names) x) n);
-    other = below_more _ _ s.other other;
-  }
-
-  pub found : (i : ℕ) → i < length names → Searched names x i → same_name (get_or names i []) x ≡ true → Numbers names x (i + 1)
-  found i h s same =
-      let here : i + 1 - 1 ≡ i = omega arith in
-      let next : i + 1 ≡ suc i = omega arith in
-      record {
-        value = next ∙ sym (at_name i h s ∙ cond-true _ _ _ same);
-        within = omega arith;
-        same = λ _. ap (λ k. same_name (get_or names k []) x) here ∙ same;
-        none = λ none. absurd (omega arith);
-      }
-
-  pub not_found : Searched names x (length names) → Numbers names x 0
-  not_found s = record {
-    value = sym (s.rest ∙ at_drop_all (λ ns. number_from (suc (length names)) ns x) names (length names) (omega arith));
-    within = omega arith;
-    same = λ some. absurd (omega arith);
-    none = λ _. s.other;
-  }
-
--- what was said of the name n, which stands at index i, and of its octets as they are lent
-pub compared : {X : Type 0} (f : X → List ℕ) (names : List X) (i : ℕ) (n : X) (lent x : List ℕ) (b : Bool) → i < length names → n ≡ get_or names i n → lent ≡ f n → b ≡ same_name lent x → same_name (get_or (names_of f names) i []) x ≡ b
-compared f names i n lent x b h is same said =
-    ap (λ l. same_name l x) (get_or-map f names i n [] h ∙ ap f (sym is) ∙ sym same) ∙ sym said
+  pub placed : (o : Option ℕ) → o ≡ place_of names x → Numbers names x (numbered o)
+  placed o h = both o h (ap numbered (h ∙ position_from-zero (λ name. same_name name x) names) ∙ sym (number_at names x 0))
+    where
+      both : (o : Option ℕ) → o ≡ place_of names x → numbered o ≡ number_of names x → Numbers names x (numbered o)
+      both None h value = record { value = value; within = omega arith; same = λ some. absurd (omega arith); none = λ _. none_at (sym h) }
+      both (Some i) h value =
+          let here = position-Some (λ name. same_name name x) names i [] (sym h) in
+          let back : i + 1 - 1 ≡ i = omega arith in
+          record {
+            value = value;
+            within = omega (arith, here.0);
+            same = λ _. ap (λ k. same_name (get_or names k []) x) back ∙ here.1;
+            none = λ none. absurd (omega arith);
+          }
 
 pub names_length : {X : Type 0} (f : X → List ℕ) (names : List X) → length (names_of f names) ≡ length names
 names_length f names = length-map names f
 
 -- ---- the names of a book
 
--- each of the first i names can follow those before it
-abbrev pub Following : List (List ℕ) → ℕ → Type 0
-Following names i = (j : ℕ) → j < i → Follows (take j names) (get_or names j [])
-
 module _ (names : List (List ℕ)) where
-  pub good_from_following : 0 < length names → length names ≤ 64 → Following names (length names) → GoodNames names
+  good_from_following : 0 < length names → length names ≤ 64 → ((j : ℕ) → j < length names → FollowsEarlier names j) → GoodNames names
   good_from_following some few each = record {
     some = some;
     few = few;
@@ -110,7 +97,7 @@ module _ (names : List (List ℕ)) where
         sym (ap (λ n. same_name n (get_or names j [])) (get_or-take j names i [] h.0)) ∙ (each j h.1).new i (omega (arith, length-take-le j names upto));
   }
 
-  pub following_from_good : GoodNames names → (j : ℕ) → j < length names → Follows (take j names) (get_or names j [])
+  following_from_good : GoodNames names → (j : ℕ) → j < length names → FollowsEarlier names j
   following_from_good good j h =
       let upto : j ≤ length names = omega arith in
       record {
@@ -119,26 +106,54 @@ module _ (names : List (List ℕ)) where
         new = λ i k. let lower : i < j = omega (arith, length-take-le j names upto) in ap (λ n. same_name n (get_or names j [])) (get_or-take j names i [] lower) ∙ good.apart i j (lower, h);
       }
 
+  -- what was found of each place says whether the names are good
+  pub good_where_all : (n : ℕ) (r : Bool) → n ≡ length names → 0 < n → n ≤ 64 → MatchBool r (AllWithin (FollowsEarlier names) (range_with_len 0 n) 0 (length (range_with_len 0 n))) ((k : ℕ) × (k < length (range_with_len 0 n)) × HoldsAt (λ i. FollowsEarlier names i → ⊥) (range_with_len 0 n) k) → Decides r (GoodNames names)
+  good_where_all n true is some few each = (
+    λ _. good_from_following (omega arith) (omega arith) (λ j h. let within : j < n = omega arith in let here : get_or (range_with_len 0 n) j 0 ≡ j = omega (arith, get_or-range_with_len 0 n j 0 within) in subst (FollowsEarlier names) here (each j 0 (omega arith) (omega (arith, length-range_with_len 0 n)))),
+    λ _. refl,
+  )
+  good_where_all n false is some few (k, within, other) = (
+    λ e. absurd (false≢true e),
+    λ good.
+        let lower : k < n = omega (arith, length-range_with_len 0 n) in
+        absurd (other 0 (following_from_good good (get_or (range_with_len 0 n) k 0) (omega (arith, get_or-range_with_len 0 n k 0 lower)))),
+  )
+
 moved : {a b : List (List ℕ)} {x y : List ℕ} → a ≡ b → x ≡ y → Follows a x → Follows b y
 moved {a} {b} {x} {y} p q h = subst (λ n. Follows b n) q (subst (λ l. Follows l x) p h)
 
 -- the name at index i and those before it, as they are lent
 module _ (names : List (Bor (List ℕ))) (i : ℕ) (d : Bor (List ℕ)) (within : i < length names) where
-  front_is : lent_names (take (i - 0) names) ≡ take i (lent_names names)
-  front_is = let n : i - 0 ≡ i = omega arith in ap (λ k. lent_names (take k names)) n ∙ sym (take-map (λ n. n.now) i names)
+  front_is : lent_names (take i names) ≡ take i (lent_names names)
+  front_is = sym (take-map (λ n. n.now) i names)
 
   name_is : (get_or names i d).now ≡ get_or (lent_names names) i []
   name_is = sym (get_or-map (λ n. n.now) names i d [] within)
 
-  pub follows_from_lent : Follows (lent_names (take (i - 0) names)) (get_or names i d).now → Follows (take i (lent_names names)) (get_or (lent_names names) i [])
+  pub follows_from_lent : Follows (lent_names (take i names)) (get_or names i d).now → FollowsEarlier (lent_names names) i
   follows_from_lent = moved front_is name_is
 
-  pub lent_from_follows : Follows (take i (lent_names names)) (get_or (lent_names names) i []) → Follows (lent_names (take (i - 0) names)) (get_or names i d).now
+  pub lent_from_follows : FollowsEarlier (lent_names names) i → Follows (lent_names (take i names)) (get_or names i d).now
   lent_from_follows = moved (sym front_is) (sym name_is)
 
-  -- a copy of the name at index i, behind the copies of those before it
-  pub copied_more : (copies after : List Name) (copy : Name) → own_names copies ≡ take i (lent_names names) → vec_items copy.octets ≡ (get_or names i d).now → after ≡ copies ++ copy ∷ [] → own_names after ≡ take (i + 1) (lent_names names)
-  copied_more copies after copy so_far same pushed =
-      ap own_names pushed ∙ map_push (λ n. vec_items n.octets) copies copy
-      ∙ (λ k. so_far k ++ (same ∙ name_is) k ∷ [])
-      ∙ sym (take_more (lent_names names) i [] (omega (arith, names_length (λ n. n.now) names)))
+-- ---- copies of lent names
+
+-- a list with a place has an element
+element : {X : Type 0} (xs : List X) (k : ℕ) → k < length xs → X
+element [] k h = absurd (omega arith)
+element (x ∷ xs) k h = x
+
+module _ {S T : Type 0} {steps : S → Option (Result Name AllocError) → S → Type 0} {source : T → Option (Bor (Bor (List ℕ))) → T → Type 0} (p : Run steps) (q : Run source) (R : Bor (Bor (List ℕ)) → Result Name AllocError → Type 0) (copies : (x : Bor (Bor (List ℕ))) (n : Name) → R x (Ok n) → vec_items n.octets ≡ x.now.now) where
+  one_copied : (names : List (Bor (List ℕ))) (k : ℕ) (made : Option (Result Name AllocError)) (lent : Option (Bor (Bor (List ℕ)))) (n : Name) → k < length names → IsSomeRelated (λ x y. Ok y ≡ x) made n → IfSome made (λ y. IsSomeAnd lent (λ x. R x y)) → IfSome lent (λ x. HoldsAt (λ y. x.now ≡ y) names k) → vec_items n.octets ≡ get_or (lent_names names) k []
+  one_copied names k None lent n within is made at = absurd is
+  one_copied names k (Some r) None n within is made at = absurd made
+  one_copied names k (Some r) (Some x) n within is made at =
+      copies x n (subst (R x) (sym is) made) ∙ ap (λ y. y.now) (at x.now) ∙ sym (get_or-map (λ y. y.now) names k x.now [] within)
+
+  -- the names that were collected, each made of the lent one at its place
+  pub copied : (names : List (Bor (List ℕ))) (ns : List Name) → length ns ≡ p.len → p.len ≡ length names → ((k : ℕ) (d : Name) → k < p.len → IsSomeRelated (λ x y. Ok y ≡ x) (p.at k) (get_or ns k d)) → RelatesRuns p q R → ((k : ℕ) → IfSome (q.at k) (λ x. HoldsAt (λ y. x.now ≡ y) names k)) → own_names ns ≡ lent_names names
+  copied names ns long len each made at =
+      ext_get_or [] (own_names ns) (lent_names names) (omega (arith, names_length (λ n. vec_items n.octets) ns, names_length (λ n. n.now) names)) (λ k h.
+      let within : k < length ns = omega (arith, names_length (λ n. vec_items n.octets) ns) in
+      let n = element ns k within in
+      get_or-map (λ n. vec_items n.octets) ns k n [] within ∙ one_copied names k (p.at k) (q.at k) (get_or ns k n) (omega arith) (each k n (omega arith)) (made.1 k) (at k))

@@ -1,5 +1,5 @@
 -- DNN names: when two are the same, which ones a book can have, and how a book numbers them.
-use Rattle.std.specs.Prelude.{◌≡◌, ℕ, suc, ◌-◌, ◌<◌, ◌≤◌, Bool, true, false, cond, ◌&&◌, List, [], ◌∷◌, map, length, Decides, ◌==◌, slice_index_or}
+use Rattle.std.specs.Prelude.{◌≡◌, ℕ, suc, ◌+◌, ◌-◌, ◌<◌, ◌≤◌, Bool, true, false, cond, ◌&&◌, List, [], ◌∷◌, map, take, length, Some, None, Option, Decides, ◌==◌, slice_index_or}
 
 abbrev pub same_octet : ℕ → ℕ → Bool
 same_octet x y = x == y
@@ -42,6 +42,10 @@ pub record Follows (earlier : List (List ℕ)) (name : List ℕ) : Type 0 where
   pub few : length name ≤ 100
   pub new : (i : ℕ) → i < length earlier → same_name (slice_index_or earlier i []) name ≡ false
 
+-- the name at place i can follow those before it
+abbrev pub FollowsEarlier : List (List ℕ) → ℕ → Type 0
+FollowsEarlier names i = Follows (take i names) (slice_index_or names i [])
+
 -- the number of the first name that is the same as x, where the names are numbered from k on, else 0
 abbrev pub number_from : ℕ → List (List ℕ) → List ℕ → ℕ
 number_from k [] x = 0
@@ -49,6 +53,11 @@ number_from k (name ∷ names) x = cond (same_name name x) k (number_from (suc k
 
 abbrev pub number_of : List (List ℕ) → List ℕ → ℕ
 number_of names x = number_from 1 names x
+
+-- the number of the name at a place, where places are counted from 0; none has the number 0
+abbrev pub numbered : Option ℕ → ℕ
+numbered None = 0
+numbered (Some i) = i + 1
 
 -- r is the number of the name that is the same as x, and 0 where none is
 pub record Numbers (names : List (List ℕ)) (x : List ℕ) (r : ℕ) : Type 0 where

@@ -2,8 +2,8 @@
 use Rattle.std.specs.Prelude.{◌≡◌, ℕ, List, vec_items}
 use Rattle.std.specs.Borrow.{Bor}
 use Rattle.names.specs.declared.name.Name.{Name}
-use Rattle.names.specs.declared.book_error.BookError.{BookError}
-use Rattle.names.specs.declared.book_error.BookError.TheVariants.{Refused, OutOfMemory}
+use Rattle.codes.specs.declared.setup_error.SetupError.{SetupError}
+use Rattle.codes.specs.declared.setup_error.SetupError.TheVariants.{Refused, OutOfMemory}
 use Rattle.codes.specs.declared.refusal.Refusal.TheVariants.{Opening}
 use Rattle.codes.specs.Refusals.{refusal_number}
 use Rattle.names.specs.Names.{names_of, GoodNames}
@@ -20,6 +20,6 @@ pub record Made (names own : List (List ℕ)) : Type 0 where
   pub same : own ≡ names
 
 -- bad names are refused, and only for good ones is memory wanted
-abbrev pub Unmade : List (List ℕ) → BookError → Type 0
+abbrev pub Unmade : List (List ℕ) → SetupError → Type 0
 Unmade names (Refused r) = (refusal_number r ≡ refusal_number Opening) × (GoodNames names → ⊥)
 Unmade names OutOfMemory = GoodNames names

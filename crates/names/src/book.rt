@@ -1,72 +1,77 @@
 // The book of DNN names, which numbers them from 1.
 ghost use Rattle.std.specs.Prelude.{◌≡◌, ◌<◌, ◌≤◌, length, IfOk, vec_len, Decides, MatchResult};
-ghost use Rattle.names.specs.Names.{Numbers, Sized, Apart, Follows, GoodNames};
+ghost use Rattle.names.specs.Names.{Numbers, Sized, Apart, Follows, FollowsEarlier, GoodNames};
 ghost use Rattle.names.specs.OwnNames.{own_names, lent_names, Made, Unmade};
 
-use crate::book_error::BookError;
-use crate::name::{Name, number_in};
-use codes::{DnnNumber, Refusal};
+use crate::name::{Name, place_in};
+use codes::{DnnNumber, Refusal, SetupError};
 use std::alloc::{AllocError, Global};
 
 #[derive(Drop)]
 pub struct Book {
     names: Vec<Name>,
-    ghost some: { 0 < vec_len names },
-    ghost few: { vec_len names ≤ 64 },
-    ghost sized: { Sized (own_names names.items) },
-    ghost apart: { Apart (own_names names.items) },
+    ghost good: { GoodNames (own_names names.items) },
 }
 
 // Whether a book can have `name` behind the earlier ones.
 fn follows(earlier: &[&[u8]], name: &[u8]) -> bool
     ensures { Decides result (Follows (lent_names earlier.now) name.now) }
 {
-    !name.is_empty() && name.len() <= 100 && number_in(earlier, name) == 0
+    !name.is_empty() && name.len() <= 100 && place_in(earlier, name).is_none()
+}
+
+// Whether the name at a place can follow those before it.
+fn follows_earlier(names: &[&[u8]], place: usize) -> bool
+    requires { place < length names.now }
+    ensures { Decides result (FollowsEarlier (lent_names names.now) place) }
+{
+    follows(&names[..place], names[place])
 }
 
 // Whether a book can have these names.
 fn good_names(names: &[&[u8]]) -> bool
     ensures { Decides result (GoodNames (lent_names names.now)) }
 {
-    if names.is_empty() || names.len() > 64 {
-        return false;
-    }
-    for (i, name) in names.iter().enumerate() {
-        if !follows(&names[0..i], *name) {
-            return false;
-        }
-    }
-    true
+    !names.is_empty()
+        && names.len() <= 64
+        && (0..names.len()).all(|place| follows_earlier(names, place))
+}
+
+// A name of its own with the same octets.
+fn copy_name(heap: Global, name: &[u8]) -> Result<Name, AllocError>
+    ensures { IfOk result (λ n. n.octets.items ≡ name.now) }
+{
+    let octets = name.to_vec(heap)?;
+    Ok(Name { octets })
 }
 
 // Names of their own with the same octets.
 fn copy_names(heap: Global, names: &[&[u8]]) -> Result<Vec<Name>, AllocError>
     ensures { IfOk result (λ v. own_names v.items ≡ lent_names names.now) }
 {
-    let mut copies = Vec::new(heap);
-    for name in names {
-        let octets = name.to_vec(heap)?;
-        copies.push(Name { octets })?;
-    }
-    Ok(copies)
+    names
+        .iter()
+        .map(|name| copy_name(heap, name))
+        .try_collect(heap)
 }
 
 impl Book {
     // The names are checked before any memory is asked for.
-    pub fn new(heap: Global, names: &[&[u8]]) -> Result<Book, BookError>
+    pub fn new(heap: Global, names: &[&[u8]]) -> Result<Book, SetupError>
         ensures { MatchResult result (λ b. Made (lent_names names.now) (own_names b.names.items)) (λ e. Unmade (lent_names names.now) e) }
     {
         if !good_names(names) {
-            return Err(BookError::Refused(Refusal::Opening));
+            return Err(SetupError::from(Refusal::Opening));
         }
         let names = copy_names(heap, names)?;
         Ok(Book { names })
     }
 
+    // The number of the name that is the same, or 0, which stands for a name that is not in the book.
     pub fn number_of(&self, octets: &[u8]) -> DnnNumber
         ensures { Numbers (own_names self.now.names.items) octets.now result }
     {
-        number_in(self.names.as_slice(), octets) as DnnNumber
+        place_in(self.names.as_slice(), octets).map_or(0, |i| (i + 1) as DnnNumber)
     }
 
     // How many names there are.

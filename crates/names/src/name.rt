@@ -1,6 +1,8 @@
 // The octets of a DNN as a name.
 ghost use Rattle.std.specs.Prelude.{◌≡◌, ℕ, List};
-ghost use Rattle.names.specs.Names.{same_octet, Same, Numbers, names_of};
+ghost use Rattle.names.specs.Names.{same_octet, Same, Numbers, names_of, numbered};
+
+use std::convert::AsSlice;
 
 // Whether two octets are the same in a name.
 fn same_octet(a: u8, b: u8) -> bool
@@ -13,23 +15,7 @@ fn same_octet(a: u8, b: u8) -> bool
 pub fn same_name(a: &[u8], b: &[u8]) -> bool
     ensures { Same a.now b.now result }
 {
-    if a.len() != b.len() {
-        return false;
-    }
-    for (i, octet) in a.iter().enumerate() {
-        if !same_octet(*octet, b[i]) {
-            return false;
-        }
-    }
-    true
-}
-
-// What holds the octets of a name, its own or lent ones.
-pub trait Named {
-    ghost spelled: { Self → List ℕ };
-
-    fn octets(&self) -> &[u8]
-        ensures { result.now ≡ spelled self.now };
+    a.len() == b.len() && a.iter().zip(b).all(|(x, y)| same_octet(*x, *y))
 }
 
 // A name that owns its octets.
@@ -38,30 +24,19 @@ pub struct Name {
     pub octets: Vec<u8>,
 }
 
-impl Named for Name {
-    ghost spelled = { λ n. n.octets.items };
+impl AsSlice<u8> for Name {
+    ghost items = { λ n. n.octets.items };
 
-    fn octets(&self) -> &[u8] {
+    fn as_slice(&self) -> &[u8] {
         self.octets.as_slice()
     }
 }
 
-impl Named for &[u8] {
-    ghost spelled = { λ n. n.now };
-
-    fn octets(&self) -> &[u8] {
-        *self
-    }
-}
-
-// The number of the first name that is the same, counted from 1, or 0.
-pub fn number_in<N: Named>(names: &[N], octets: &[u8]) -> usize
-    ensures { Numbers (names_of N.spelled names.now) octets.now result }
+// The place of the first name that is the same.
+pub fn place_in<N: AsSlice<u8>>(names: &[N], octets: &[u8]) -> Option<usize>
+    ensures { Numbers (names_of N.items names.now) octets.now (numbered result) }
 {
-    for (i, name) in names.iter().enumerate() {
-        if same_name(name.octets(), octets) {
-            return i + 1;
-        }
-    }
-    0
+    names
+        .iter()
+        .position(|name| same_name(name.as_slice(), octets))
 }

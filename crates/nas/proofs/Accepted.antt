@@ -15,15 +15,15 @@ use Rattle.nas.proofs.Encoded.{Fine}
 
 then_ok : {X Y : Type 0} (r : Result X ℕ) (f : X → Result Y ℕ) (y : Y) → then r f ≡ Ok y → (x : X) × (r ≡ Ok x) × (f x ≡ Ok y)
 then_ok (Ok x) f y h = (x, refl, h)
-then_ok (Err n) f y h = absurd (let z : ◌≡◌ {A = ℕ} 0 1 = cc in omega arith)
+then_ok (Err n) f y h = absurd (cc)
 
 unless_ok : {X : Type 0} (b : Bool) (n : ℕ) (r : Result X ℕ) (x : X) → cond b (Err n) r ≡ Ok x → (b ≡ false) × (r ≡ Ok x)
-unless_ok true n r x h = absurd (let z : ◌≡◌ {A = ℕ} 0 1 = cc in omega arith)
+unless_ok true n r x h = absurd (cc)
 unless_ok false n r x h = (refl, h)
 
 if_ok : {X : Type 0} (b : Bool) (n : ℕ) (r : Result X ℕ) (x : X) → cond b r (Err n) ≡ Ok x → (b ≡ true) × (r ≡ Ok x)
 if_ok true n r x h = (refl, h)
-if_ok false n r x h = absurd (let z : ◌≡◌ {A = ℕ} 0 1 = cc in omega arith)
+if_ok false n r x h = absurd (cc)
 
 -- ---- one element
 
@@ -97,7 +97,7 @@ checked_fine {X} kind good f o s e es h fine none first is = either (kind e.iden
 -- ---- all elements
 
 none_fine : {X : Type 0} (kind good : ℕ → Bool) (o : Option X) → Fine kind good o []
-none_fine kind good o none first is = absurd (let z : ◌≡◌ {A = ℕ} 0 1 = cc in omega arith)
+none_fine kind good o none first is = absurd (cc)
 
 -- the elements that xs is put together from, read where p is known
 record Walked (p : Parts) (xs : List ℕ) : Type 0 where

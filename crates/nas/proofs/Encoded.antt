@@ -109,10 +109,10 @@ checked false None new f e h = refl
 checked false (Some x) new f e h = refl
 
 none_told : {X : Type 0} (b : Bool) (o : Option X) (f : Ie → X) (e : Ie) → else o (told b f e) ≡ None → (o ≡ None) × (b ≡ false)
-none_told true None f e h = absurd (let z : ◌≡◌ {A = ℕ} 0 1 = cc in omega arith)
+none_told true None f e h = absurd (cc)
 none_told false None f e h = (refl, refl)
-none_told true (Some x) f e h = absurd (let z : ◌≡◌ {A = ℕ} 0 1 = cc in omega arith)
-none_told false (Some x) f e h = absurd (let z : ◌≡◌ {A = ℕ} 0 1 = cc in omega arith)
+none_told true (Some x) f e h = absurd (cc)
+none_told false (Some x) f e h = absurd (cc)
 
 told_next : {X : Type 0} (b : Bool) (o : Option X) (f : Ie → X) (e : Ie) (next : Option Ie) → else (else o (told b f e)) (option_map f next) ≡ else o (option_map f (cond b (Some e) next))
 told_next true None f e next = refl

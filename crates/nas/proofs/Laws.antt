@@ -1,6 +1,8 @@
 -- The laws of the reader: what it makes of whole messages, and of messages that were cut short.
 use Rattle.std.proofs.Common.{◌≡◌, ℕ, zero, suc, ◌+◌, ◌-◌, ◌*◌, ◌/◌, ◌%◌, ◌<◌, ◌≤◌, Bool, true, false, cond, List, [], ◌∷◌, ◌++◌, length, take, drop, Some, Ok, Result, sym, refl, ap, ◌∙◌, append_assoc, append-nil, arith}
 use Rattle.std.specs.List.{flat_map, AllByRecursion}
+use Rattle.std.proofs.Math.Seq.{take-append-add}
+use Rattle.std.proofs.lemmas.Grind.{flat_map-append}
 use Rattle.std.proofs.lemmas.List.{take_at, drop_at, drop-drop, length-append, take-append-le, length-take-le}
 use Rattle.std.proofs.lemmas.Bool.Decides.{nat_tests}
 use Rattle.codes.specs.declared.refusal.Refusal.TheVariants.{Overrun}
@@ -57,23 +59,13 @@ header_cut a b payload behind (suc (suc (suc (suc (suc (suc j)))))) some few h =
 pub cut_in_payload : (a b : ℕ) (payload : List ℕ) (es : List Ie) (k : ℕ) → WellFormed payload es → k < 6 + length payload → read (take k (message a b payload es)) ≡ refuse Overrun
 cut_in_payload a b payload es k w h = read_refused (take k (message a b payload es)) _ (header_cut a b payload (flat_map encoded es) k w.some w.few h)
 
-take_beyond : {X : Type 0} (xs ys : List X) (j : ℕ) → take (length xs + j) (xs ++ ys) ≡ xs ++ take j ys
-take_beyond [] ys j = let n : 0 + j ≡ j = omega arith in ap (λ k. take k ys) n
-take_beyond (x ∷ xs) ys j =
-    let n : suc (length xs) + j ≡ suc (length xs + j) = omega arith in
-    ap (λ k. take k (x ∷ (xs ++ ys))) n ∙ ap (λ l. x ∷ l) (take_beyond xs ys j)
-
-joined_append : (xs ys : List Ie) → flat_map encoded (xs ++ ys) ≡ flat_map encoded xs ++ flat_map encoded ys
-joined_append [] ys = refl
-joined_append (x ∷ xs) ys = ap (λ l. encoded x ++ l) (joined_append xs ys) ∙ sym (append_assoc (encoded x) (flat_map encoded xs) (flat_map encoded ys))
-
 all_split : (xs : List Ie) (e : Ie) (ys : List Ie) → AllByRecursion Formed (xs ++ e ∷ ys) → AllByRecursion Formed xs × Formed e
 all_split [] e ys h = (tt, h.0)
 all_split (x ∷ xs) e ys h = let m = all_split xs e ys h.1 in ((h.0, m.0), m.1)
 
 -- what comes first stays first, whatever follows
 first_stays : (kind : ℕ → Bool) (xs ys : List Ie) (e : Ie) → first_of kind xs ≡ Some e → first_of kind (xs ++ ys) ≡ Some e
-first_stays kind [] ys e h = absurd (let z : ◌≡◌ {A = ℕ} 0 1 = cc in omega arith)
+first_stays kind [] ys e h = absurd (cc)
 first_stays kind (x ∷ xs) ys e h = either (kind x.identifier) (first_stays kind xs ys e) h
   where
     either : (b : Bool) → (first_of kind xs ≡ Some e → first_of kind (xs ++ ys) ≡ Some e) → cond b (Some x) (first_of kind xs) ≡ Some e → cond b (Some x) (first_of kind (xs ++ ys)) ≡ Some e
@@ -92,7 +84,7 @@ module _ (a b : ℕ) (payload : List ℕ) (before : List Ie) (e : Ie) (after : L
   }
 
   behind_front : (es : List Ie) → message a b payload (before ++ e ∷ es) ≡ message a b payload before ++ (encoded e ++ flat_map encoded es)
-  behind_front es = ap (framed a b payload) (joined_append before (e ∷ es)) ∙ frame_append a b payload (flat_map encoded before) (encoded e ++ flat_map encoded es)
+  behind_front es = ap (framed a b payload) (flat_map-append encoded before (e ∷ es)) ∙ frame_append a b payload (flat_map encoded before) (encoded e ++ flat_map encoded es)
 
   pub cut_in_element : (k : ℕ) → WellFormed payload (before ++ e ∷ after) → length (message a b payload before) < k → k < length (message a b payload (before ++ e ∷ [])) → read (take k (message a b payload (before ++ e ∷ after))) ≡ refuse Overrun
   cut_in_element k w behind short =
@@ -103,7 +95,7 @@ module _ (a b : ℕ) (payload : List ℕ) (before : List Ie) (e : Ie) (after : L
       let upto : j ≤ length (encoded e) = omega arith in
       ap (λ xs. read (take k xs)) (behind_front after)
       ∙ ap (λ n. read (take n (message a b payload before ++ (encoded e ++ flat_map encoded after)))) sum
-      ∙ ap read (take_beyond (message a b payload before) (encoded e ++ flat_map encoded after) j)
+      ∙ ap read (take-append-add (message a b payload before) (encoded e ++ flat_map encoded after) j)
       ∙ ap (λ l. read (message a b payload before ++ l)) (take-append-le j (encoded e) (flat_map encoded after) upto)
       ∙ ap read (sym (frame_append a b payload (flat_map encoded before) (take j (encoded e))))
       ∙ read_elements a b payload before (take j (encoded e)) (front_formed w)

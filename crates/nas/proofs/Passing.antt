@@ -1,10 +1,10 @@
 -- One step of the reader, over one element.
-use Rattle.std.proofs.Common.{◌≡◌, ℕ, zero, suc, ◌+◌, ◌-◌, ◌<◌, ◌≤◌, true, false, ltb, List, [], ◌∷◌, length, take, drop, Ok, Err, Result, sym, refl, ap, ◌∙◌, subst, arith}
-use Rattle.std.proofs.lemmas.List.{length-drop, take_rest}
-use Rattle.std.proofs.lemmas.Bool.{cond-true, cond-false, lt-ltb, le-ltb}
+use Rattle.std.proofs.Common.{◌≡◌, ℕ, zero, suc, ◌+◌, ◌<◌, ◌≤◌, List, [], ◌∷◌, length, take, drop, Ok, Err, sym, refl, ap, ◌∙◌, subst, arith}
+use Rattle.std.proofs.lemmas.List.{drop-drop, length-drop}
+use Rattle.std.proofs.lemmas.Bool.Decides.{nat_tests}
 use Rattle.nas.specs.declared.element.Element.{Element}
 use Rattle.nas.specs.declared.element.Extent.{Extent}
-use Rattle.nas.specs.Elements.{octet, octets_of_length, contents_length, element}
+use Rattle.nas.specs.Elements.{octets_of_length, contents_length, element}
 use Rattle.codes.specs.declared.refusal.Refusal.{Refusal}
 use Rattle.codes.specs.declared.refusal.Refusal.TheVariants.{Overrun}
 use Rattle.codes.specs.Refusals.{refusal_number}
@@ -13,36 +13,29 @@ use Rattle.nas.specs.Uplinks.{Parts, refuse, noted, nothing, walk, then, header,
 
 -- an element that fits the octets behind its first one
 pub fitting : (x : ℕ) (behind : List ℕ) → 16 ≤ x → octets_of_length x + contents_length x behind ≤ length behind → element x behind ≡ Ok (record { size = octets_of_length x + contents_length x behind; contents = take (contents_length x behind) (drop (octets_of_length x) behind) })
-fitting x behind known fits =
-    let n1 : ltb x 16 ≡ false = le-ltb _ _ known in
-    let n2 : ltb (length behind) (octets_of_length x + contents_length x behind) ≡ false = le-ltb _ _ fits in
-    cond-false _ _ _ n1 ∙ cond-false _ _ _ n2
+fitting x behind known fits = grind (arith, nat_tests)
 
 -- an element that runs past them
 pub overrunning : (x : ℕ) (behind : List ℕ) → 16 ≤ x → length behind < octets_of_length x + contents_length x behind → element x behind ≡ refuse Overrun
-overrunning x behind known over =
-    let n1 : ltb x 16 ≡ false = le-ltb _ _ known in
-    let n2 : ltb (length behind) (octets_of_length x + contents_length x behind) ≡ true = lt-ltb _ _ over in
-    cond-false _ _ _ n1 ∙ cond-true _ _ _ n2
+overrunning x behind known over = grind (arith, nat_tests)
 
 extended : (x : ℕ) (behind : List ℕ) (e : Extent) → Extends x behind e → element x behind ≡ Ok (record { size = e.length_octets + e.contents; contents = take e.contents (drop e.length_octets behind) })
 extended x behind e h =
     fitting x behind h.known (omega (arith, h.lead, h.body, h.fits))
     ∙ (λ i. Ok (record { size = sym h.lead i + sym h.body i; contents = take (sym h.body i) (drop (sym h.lead i) behind) }))
 
--- the code's parts of xs are those of the element at its front
-pub passed : (xs behind : List ℕ) (e : Extent) (el : Element) (ys : List ℕ) → 0 < length xs → behind ≡ drop 1 xs → Extends (octet xs 0) behind e → el.identifier ≡ octet xs 0 → el.contents.now ≡ take (e.length_octets + e.contents - e.length_octets) (drop e.length_octets behind) → ys ≡ take (length behind - (e.length_octets + e.contents)) (drop (e.length_octets + e.contents) behind) → Passed xs el ys
-passed xs behind e el ys some is h first held rest =
-    let n : e.length_octets + e.contents - e.length_octets ≡ e.contents = omega arith in
-    let left : ys ≡ drop (e.length_octets + e.contents) behind = rest ∙ take_rest behind (e.length_octets + e.contents) in
-    record {
+-- the code's parts of xs are those of the element at its front; mid is what follows the octets of its length
+pub passed : (x : ℕ) (xs behind mid : List ℕ) (e : Extent) (el : Element) (ys : List ℕ) → xs ≡ x ∷ behind → el.identifier ≡ x → Extends x behind e → mid ≡ drop e.length_octets behind → el.contents.now ≡ take e.contents mid → ys ≡ drop e.contents mid → Passed xs el ys
+passed x xs behind mid e el ys is first h cut held rest =
+    let left : ys ≡ drop (e.length_octets + e.contents) behind = rest ∙ ap (drop e.contents) cut ∙ drop-drop e.contents e.length_octets behind in
+    subst (λ l. Passed l el ys) (sym is) (record {
       size = e.length_octets + e.contents;
       first = first;
-      extent = subst (λ b. element (octet xs 0) b ≡ Ok (record { size = e.length_octets + e.contents; contents = el.contents.now })) is (extended (octet xs 0) behind e h ∙ (λ i. Ok (record { size = e.length_octets + e.contents; contents = (ap (λ k. take k (drop e.length_octets behind)) (sym n) ∙ sym held) i })));
-      fits = subst (λ b. e.length_octets + e.contents ≤ length b) is h.fits;
-      behind = left ∙ ap (drop (e.length_octets + e.contents)) is;
-      shorter = omega (arith, ap length left ∙ length-drop (e.length_octets + e.contents) behind, ap length is ∙ length-drop 1 xs);
-    }
+      extent = extended x behind e h ∙ (λ i. Ok (record { size = e.length_octets + e.contents; contents = sym (held ∙ ap (take e.contents) cut) i }));
+      fits = h.fits;
+      behind = left;
+      shorter = omega (arith, ap length left ∙ length-drop (e.length_octets + e.contents) behind);
+    })
 
 -- ---- the walk over all elements, one step at a time
 
@@ -81,10 +74,6 @@ module _ (p : Parts) (e : Element) (ys : List ℕ) where
 pub read_refused : (xs : List ℕ) (n : ℕ) → header xs ≡ Err n → read xs ≡ Err n
 read_refused xs n h = ap (λ r. then r (λ k. then (walk 0 nothing (drop (6 + k) xs)) (judged (take k (drop 6 xs))))) h
 
--- and once it is known what its elements, as the code cuts them off, say
-pub read_parts : (xs : List ℕ) (n : ℕ) (r : Result Parts ℕ) → header xs ≡ Ok n → walk 0 nothing (take (length xs - (6 + n)) (drop (6 + n) xs)) ≡ r → read xs ≡ then r (judged (take (6 + n - 6) (drop 6 xs)))
-read_parts xs n r h e =
-    let same : n ≡ 6 + n - 6 = omega arith in
-    ap (λ q. then q (λ k. then (walk 0 nothing (drop (6 + k) xs)) (judged (take k (drop 6 xs))))) h
-    ∙ (λ i. then (walk 0 nothing (sym (take_rest xs (6 + n)) i)) (judged (take (same i) (drop 6 xs))))
-    ∙ ap (λ q. then q (judged (take (6 + n - 6) (drop 6 xs)))) e
+-- the elements, as the code splits them off behind a payload of n octets
+pub elements_split : (xs : List ℕ) (n : ℕ) → drop n (drop 6 xs) ≡ drop (6 + n) xs
+elements_split xs n = drop-drop n 6 xs

@@ -23,6 +23,11 @@ abbrev pub numbered : {X : Type 0} → Result X Refusal → Result X ℕ
 numbered (Ok x) = Ok x
 numbered (Err e) = Err (refusal_number e)
 
+-- what view shows of a value, or the refusal by its number
+abbrev pub seen : {X Y : Type 0} → (X → Y) → Result X Refusal → Result Y ℕ
+seen view (Ok x) = Ok (view x)
+seen view (Err e) = Err (refusal_number e)
+
 -- the message, or the refusal by its number
 abbrev pub answer : Result Uplink Refusal → Result Message ℕ
 answer (Ok u) = Ok (decoded u)

@@ -6,6 +6,7 @@ ghost use Rattle.nas.specs.Steps.{Extends, Stepped, Stopped};
 
 use codes::Refusal;
 
+// First octets of elements. They stay octets, which is no less plain: a kind is also told by a range, as 0x80..=0x8F.
 pub const SESSION_ID: u8 = 0x12;
 
 pub const S_NSSAI: u8 = 0x22;
@@ -26,26 +27,29 @@ impl Extent {
     fn of(identifier: u8, rest: &[u8]) -> Result<Extent, Refusal>
         ensures { MatchResult result (λ e. Extends identifier rest.now e) (λ e. element identifier rest.now ≡ Err (refusal_number e)) }
     {
-        let (length_octets, contents) = match identifier {
+        let extent = match identifier {
             0x00..=0x0F => return Err(Refusal::ElementKind),
-            0x10..=0x6F if identifier == SESSION_ID || identifier == OLD_SESSION_ID => (0, 1),
-            0x10..=0x6F => match rest {
-                [length, ..] => (1, *length as usize),
-                [] => return Err(Refusal::Overrun),
+            SESSION_ID | OLD_SESSION_ID => Extent {
+                length_octets: 0,
+                contents: 1,
             },
-            0x70..=0x7F => match rest {
-                [high, low, ..] => (2, *high as usize * 256 + *low as usize),
-                _ => return Err(Refusal::Overrun),
+            0x10..=0x6F => Extent {
+                length_octets: 1,
+                contents: *rest.first().ok_or(Refusal::Overrun)? as usize,
             },
-            0x80..=0xFF => (0, 0),
+            0x70..=0x7F => Extent {
+                length_octets: 2,
+                contents: u16::from_be_bytes(*rest.first_chunk().ok_or(Refusal::Overrun)?) as usize,
+            },
+            0x80..=0xFF => Extent {
+                length_octets: 0,
+                contents: 0,
+            },
         };
-        if rest.len() < length_octets + contents {
+        if rest.len() < extent.length_octets + extent.contents {
             return Err(Refusal::Overrun);
         }
-        Ok(Extent {
-            length_octets,
-            contents,
-        })
+        Ok(extent)
     }
 }
 
@@ -64,21 +68,20 @@ pub struct Reader<'a> {
 
 impl<'a> Reader<'a> {
     // The next element, which is then passed over, or none at the end.
+    #[tactic(auto, using(crate::proofs::Passing::passed))]
     pub fn next_element(&mut self) -> Result<Option<Element<'a>>, Refusal>
         ensures { MatchResult result (λ e. Stepped self.old.rest.now e self.new.rest.now) (λ e. Stopped self.old.rest.now e) }
     {
-        if self.rest.is_empty() {
+        let Some((identifier, behind)) = self.rest.split_first() else {
             return Ok(None);
-        }
-        let identifier = self.rest[0];
-        let behind = &self.rest[1..];
-        let extent = Extent::of(identifier, behind)?;
-        let start = extent.length_octets;
-        let end = start + extent.contents;
-        self.rest = &behind[end..];
+        };
+        let extent = Extent::of(*identifier, behind)?;
+        let (_, behind) = behind.split_at(extent.length_octets);
+        let (contents, rest) = behind.split_at(extent.contents);
+        self.rest = rest;
         Ok(Some(Element {
-            identifier,
-            contents: &behind[start..end],
+            identifier: *identifier,
+            contents,
         }))
     }
 }

@@ -6,8 +6,8 @@ mod returned;
 mod sample;
 mod uplink;
 
-pub use codes::{Cause, DnnNumber, Refusal, RequestType, SessionId, SliceCode};
-pub use names::{Book, BookError, same_name};
+pub use codes::{Cause, DnnNumber, Refusal, RequestType, SessionId, SetupError, SliceCode};
+pub use names::{Book, same_name};
 pub use returned::{RETURN_HEADER, RETURN_OVERHEAD, write_return};
 pub use sample::sample_message;
 pub use uplink::{MAX_PAYLOAD, Uplink, read_uplink};

@@ -1,9 +1,9 @@
 // The DL NAS TRANSPORT message that returns a payload to its sender.
 ghost use Rattle.std.specs.Prelude.{◌≡◌, ◌+◌, ◌≤◌, length};
-ghost use Rattle.nas.specs.Returns.{overwritten, Returns};
+ghost use Rattle.nas.specs.Returns.{back_off_element, overwritten, Returns};
 ghost use Rattle.nas.specs.Views.{numbered};
 
-use crate::uplink::MAX_PAYLOAD;
+use crate::uplink::{MAX_PAYLOAD, in_range};
 use codes::{Cause, Refusal, SessionId};
 
 // The octets in front of the payload's length: a DL NAS TRANSPORT message of N1 SM information.
@@ -12,15 +12,36 @@ pub const RETURN_HEADER: [u8; 4] = [0x7E, 0x00, 0x68, 0x01];
 // How many octets a return takes besides its payload, with the longest cause.
 pub const RETURN_OVERHEAD: usize = 13;
 
-// Writes `octets` over `output` from `at` on, and answers where they end.
-fn put(output: &mut [u8], at: usize, octets: &[u8]) -> usize
-    requires { at + length octets.now ≤ length output.old }
-    ensures end { result ≡ at + length octets.now }
-    ensures after { output.new ≡ overwritten output.old at octets.now }
-{
-    let end = at + octets.len();
-    output[at..end].copy_from_slice(octets);
-    end
+// What is written from the front on, up to `end`.
+#[derive(Drop)]
+struct Output<'a> {
+    octets: &'a mut [u8],
+    end: usize,
+}
+
+impl<'a> Output<'a> {
+    fn put(&mut self, octets: &[u8])
+        requires { self.old.end + length octets.now ≤ length self.old.octets.now }
+        ensures end { self.new.end ≡ self.old.end + length octets.now }
+        ensures after { self.new.octets.now ≡ overwritten self.old.octets.now self.old.end octets.now }
+        ensures same_reference { self.new.octets.ghost_name ≡ self.old.octets.ghost_name }
+    {
+        let end = self.end + octets.len();
+        self.octets[self.end..end].copy_from_slice(octets);
+        self.end = end;
+    }
+
+    // The element that says how long to back off, where the cause has an octet for it.
+    fn put_back_off(&mut self, octet: Option<u8>)
+        requires { self.old.end + length (back_off_element octet) ≤ length self.old.octets.now }
+        ensures end { self.new.end ≡ self.old.end + length (back_off_element octet) }
+        ensures after { self.new.octets.now ≡ overwritten self.old.octets.now self.old.end (back_off_element octet) }
+        ensures same_reference { self.new.octets.ghost_name ≡ self.old.octets.ghost_name }
+    {
+        if let Some(octet) = octet {
+            self.put(&[0x37, 1, octet]);
+        }
+    }
 }
 
 // Writes the return to the front of `output`, and answers its length. The other octets stay.
@@ -33,21 +54,23 @@ pub fn write_return(
     ensures { Returns output.old payload.now session cause (numbered result) output.new }
 {
     let length = payload.len();
-    if length == 0 || length > MAX_PAYLOAD {
+    if !(1..=MAX_PAYLOAD).contains(&length) {
         return Err(Refusal::PayloadLength);
     }
-    if session == 0 || session > 15 {
+    if !in_range(session) {
         return Err(Refusal::SessionBounds);
     }
     if output.len() < length + RETURN_OVERHEAD {
         return Err(Refusal::OutputLength);
     }
-    let mut end = put(output, 0, &RETURN_HEADER);
-    end = put(output, end, &[(length / 256) as u8, (length % 256) as u8]);
-    end = put(output, end, payload);
-    end = put(output, end, &[0x12, session, 0x58, cause.number()]);
-    if let Some(back_off) = cause.back_off() {
-        end = put(output, end, &[0x37, 1, back_off]);
-    }
-    Ok(end)
+    let mut written = Output {
+        octets: output,
+        end: 0,
+    };
+    written.put(&RETURN_HEADER);
+    written.put(&(length as u16).to_be_bytes());
+    written.put(payload);
+    written.put(&[0x12, session, 0x58, u8::from(cause)]);
+    written.put_back_off(cause.back_off());
+    Ok(written.end)
 }

@@ -10,6 +10,7 @@ pub fn sample_message() -> [u8; 13]
 }
 
 // What the definition of reading makes of it, by computation.
+#[tactic(auto, unfolding(crate::specs::Uplinks::walk))]
 fn sample_reads()
     ensures { SampleReads }
 {}

@@ -1,9 +1,9 @@
 // The UL NAS TRANSPORT message.
 ghost use Rattle.std.specs.Prelude.{◌≡◌, Ok, Err, MatchResult};
 ghost use Rattle.codes.specs.Refusals.{refusal_number};
-ghost use Rattle.nas.specs.Uplinks.{header, judged, noted, nothing, walk, slice_in};
+ghost use Rattle.nas.specs.Uplinks.{header, in_range, judged, noted, nothing, walk, slice_in};
 ghost use Rattle.nas.specs.Messages.{Reads};
-ghost use Rattle.nas.specs.Views.{parts, answer};
+ghost use Rattle.nas.specs.Views.{numbered, parts, seen, answer};
 
 use crate::element::{DNN, Element, OLD_SESSION_ID, Reader, S_NSSAI, SESSION_ID};
 use codes::{Refusal, RequestType, SessionId, SliceCode};
@@ -22,9 +22,16 @@ pub struct Uplink<'a> {
     pub dnn: Option<&'a [u8]>,
 }
 
+// Whether a session's number is one that a session can have.
+pub(crate) fn in_range(session: SessionId) -> bool
+    ensures { result ≡ in_range session }
+{
+    (1..=15).contains(&session)
+}
+
 // The length of the payload.
 fn read_header(octets: &[u8]) -> Result<usize, Refusal>
-    ensures { MatchResult result (λ n. header octets.now ≡ Ok n) (λ e. header octets.now ≡ Err (refusal_number e)) }
+    ensures { numbered result ≡ header octets.now }
 {
     let [
         discriminator,
@@ -45,8 +52,8 @@ fn read_header(octets: &[u8]) -> Result<usize, Refusal>
     if *payload_type % 16 != 1 {
         return Err(Refusal::PayloadType);
     }
-    let length = *high as usize * 256 + *low as usize;
-    if length == 0 || length > MAX_PAYLOAD {
+    let length = u16::from_be_bytes([*high, *low]) as usize;
+    if !(1..=MAX_PAYLOAD).contains(&length) {
         return Err(Refusal::PayloadLength);
     }
     if octets.len() < 6 + length {
@@ -57,7 +64,7 @@ fn read_header(octets: &[u8]) -> Result<usize, Refusal>
 
 // The slice code of an S-NSSAI. FFFFFF stands for an SD that is absent.
 fn slice_code(contents: &[u8]) -> Result<SliceCode, Refusal>
-    ensures { MatchResult result (λ n. slice_in contents.now ≡ Ok n) (λ e. slice_in contents.now ≡ Err (refusal_number e)) }
+    ensures { numbered result ≡ slice_in contents.now }
 {
     match contents {
         [sst] | [sst, _] => Ok(SliceCode::from_be_bytes([*sst, 0xFF, 0xFF, 0xFF])),
@@ -69,10 +76,11 @@ fn slice_code(contents: &[u8]) -> Result<SliceCode, Refusal>
 }
 
 // What the elements say so far.
-#[derive(Drop)]
+#[derive(Default, Drop)]
 struct Parts<'a> {
     session: Option<SessionId>,
     old_session: Option<SessionId>,
+    // Still a number: one that is no request type is refused only after the sessions were judged.
     request: Option<u8>,
     slice: Option<SliceCode>,
     dnn: Option<&'a [u8]>,
@@ -81,7 +89,7 @@ struct Parts<'a> {
 impl<'a> Parts<'a> {
     // Takes in what an element says, unless one of its kind came before.
     fn note(&mut self, element: Element<'a>) -> Result<(), Refusal>
-        ensures { MatchResult result (λ _. noted (parts self.old) element.entry.identifier element.entry.contents.now ≡ Ok (parts self.new)) (λ e. noted (parts self.old) element.entry.identifier element.entry.contents.now ≡ Err (refusal_number e)) }
+        ensures { seen (λ _. parts self.new) result ≡ noted (parts self.old) element.entry.identifier element.entry.contents.now }
     {
         match element.identifier {
             SESSION_ID if self.session.is_none() => {
@@ -92,34 +100,26 @@ impl<'a> Parts<'a> {
             }
             S_NSSAI if self.slice.is_none() => self.slice = Some(slice_code(element.contents)?),
             DNN if self.dnn.is_none() => {
-                if element.contents.is_empty() || element.contents.len() > 100 {
+                if !(1..=100).contains(&element.contents.len()) {
                     return Err(Refusal::ElementLength);
                 }
                 self.dnn = Some(element.contents);
             }
             0x80..=0x8F if self.request.is_none() => {
-                let request = element.identifier % 8;
-                self.request = Some(if request == 0 { 1 } else { request });
+                self.request = Some((element.identifier % 8).max(1));
             }
             _ => {}
         }
         Ok(())
     }
-}
 
-impl<'a> Parts<'a> {
     // What the elements in `rest` say.
+    #[tactic(auto, using(crate::proofs::Passing::walk_stop, crate::proofs::Passing::walk_refuse, crate::proofs::Passing::walk_step), unfolding(crate::specs::Uplinks::walk))]
     fn read(rest: &'a [u8]) -> Result<Parts<'a>, Refusal>
-        ensures { MatchResult result (λ p. walk 0 nothing rest.now ≡ Ok (parts p)) (λ e. walk 0 nothing rest.now ≡ Err (refusal_number e)) }
+        ensures { seen parts result ≡ walk 0 nothing rest.now }
     {
         let mut reader = Reader { rest };
-        let mut found = Parts {
-            session: None,
-            old_session: None,
-            request: None,
-            slice: None,
-            dnn: None,
-        };
+        let mut found = Parts::default();
         while let Some(element) = reader.next_element()? {
             found.note(element)?;
         }
@@ -130,23 +130,17 @@ impl<'a> Parts<'a> {
     fn judge(self, payload: &'a [u8]) -> Result<Uplink<'a>, Refusal>
         ensures { answer result ≡ judged payload.now (parts self.entry) }
     {
-        let Some(session) = self.session else {
-            return Err(Refusal::SessionBounds);
-        };
-        if session == 0 || session > 15 {
+        let session = self
+            .session
+            .filter(|session| in_range(*session))
+            .ok_or(Refusal::SessionBounds)?;
+        if self
+            .old_session
+            .is_some_and(|old| !in_range(old) || old == session)
+        {
             return Err(Refusal::SessionBounds);
         }
-        if let Some(old) = self.old_session {
-            if old == 0 || old > 15 || old == session {
-                return Err(Refusal::SessionBounds);
-            }
-        }
-        let request_type = match self.request {
-            Some(number) => {
-                Some(RequestType::from_number(number).ok_or(Refusal::UnknownRequest)?)
-            }
-            None => None,
-        };
+        let request_type = self.request.map(RequestType::try_from).transpose()?;
         Ok(Uplink {
             payload,
             session,
@@ -159,11 +153,12 @@ impl<'a> Parts<'a> {
 }
 
 // Reads a whole message. `Reads` is the definition of the answer, with the laws that stand above it.
+#[tactic(auto, using(crate::proofs::Laws::lawful, crate::proofs::Passing::elements_split))]
 pub fn read_uplink(octets: &[u8]) -> Result<Uplink<'_>, Refusal>
     ensures { Reads octets.now (answer result) }
 {
     let length = read_header(octets)?;
-    let end = 6 + length;
-    let parts = Parts::read(&octets[end..])?;
-    parts.judge(&octets[6..end])
+    let (_, behind) = octets.split_at(6);
+    let (payload, elements) = behind.split_at(length);
+    Parts::read(elements)?.judge(payload)
 }

@@ -1,6 +1,6 @@
 // Octets in print: two hexadecimal digits each, or `-` where there are none.
-ghost use Rattle.std.specs.Prelude.{◌≡◌, ◌<◌, Some};
-ghost use Rattle.printing.specs.Octets.{digit_text, octets_text};
+ghost use Rattle.std.specs.Prelude.{Some};
+ghost use Rattle.printing.specs.Octets.{octets_text};
 
 use std::fmt;
 
@@ -11,26 +11,15 @@ pub struct Octets<'a>(pub &'a [u8]);
 impl fmt::Display for Octets<'_> {
     ghost output = { λ o. Some (octets_text o.0.now) };
 
+    #[tactic(auto, using(crate::proofs::Digits::written_more))]
     fn fmt<W: fmt::Write>(&self, f: &mut fmt::Formatter<W>) -> fmt::Result {
         let octets = self.0;
         if octets.is_empty() {
             return f.write_str("-");
         }
-        for octet in octets {
-            f.write_char(digit_char(*octet / 16))?;
-            f.write_char(digit_char(*octet % 16))?;
+        for &octet in octets {
+            write!(f, "{octet:02X}")?;
         }
         Ok(())
-    }
-}
-
-fn digit_char(digit: u8) -> char
-    requires { digit < 16 }
-    ensures { result ≡ digit_text digit }
-{
-    if digit < 10 {
-        (b'0' + digit) as char
-    } else {
-        (b'A' + (digit - 10)) as char
     }
 }

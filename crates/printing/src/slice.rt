@@ -15,7 +15,6 @@ impl fmt::Display for Slice {
     ghost output = { λ s. Some (octets_text (slice_octets s.0)) };
 
     fn fmt<W: fmt::Write>(&self, f: &mut fmt::Formatter<W>) -> fmt::Result {
-        let octets = self.0.to_be_bytes();
-        Octets(&octets).fmt(f)
+        Octets(&self.0.to_be_bytes()).fmt(f)
     }
 }

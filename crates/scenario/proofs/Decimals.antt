@@ -1,11 +1,11 @@
 -- A number is read from its digits, and from what `{n}` writes.
-use Rattle.std.proofs.Common.{◌≡◌, ℕ, ◌^◌, ◌<◌, true, false, List, [], ◌∷◌, length, get_or, Some, None, Ok, Err, IsUtf8, decimal, Option, Result, sym, refl, ap, ◌∙◌, ⊎_elim, arith, rules}
+use Rattle.std.proofs.Common.{◌≡◌, ℕ, ◌^◌, ◌<◌, true, false, List, [], ◌∷◌, length, get_or, Some, None, Ok, Err, IsUtf8, decimal, Result, sym, refl, ap, ◌∙◌, ⊎_elim, arith, rules}
 use Rattle.std.specs.Result.{OkIff, result_ok}
 use Rattle.std.specs.Str.Parse.{ParsesUnsigned}
 use Rattle.std.specs.Str.{all_ascii_digits}
 use Rattle.std.proofs.lemmas.Fmt.{IsAscii-from_digits, decimal_nonempty, digits_decimal, digits_value-decimal}
 use Rattle.std.proofs.lemmas.Str.Parse.{IsNumeralModel, numerals_by_fold, parse_plain}
-use Rattle.std.proofs.lemmas.Bool.{and_from, and_parts, cases_Bool, cond-true, eqb-true, lt-ltb}
+use Rattle.std.proofs.lemmas.Bool.{and_from, cases_Bool, cond-true, lt-ltb}
 use Rattle.std.proofs.lemmas.Str.{IsUtf8-from_ascii}
 use Rattle.std.proofs.lemmas.Bool.Decides.{nat_tests}
 use Rattle.scenario.specs.Number.{number_after, number_in}
@@ -17,19 +17,17 @@ own = numerals_by_fold _ (search rules) number_after (search rules)
 there : (xs : List ℕ) → all_ascii_digits xs ≡ true → 0 < length xs → number_after 0 xs < 2 ^ 64 → number_in xs ≡ Some (number_after 0 xs)
 there xs d l v = cond-true _ _ _ (and_from _ _ d (and_from _ _ (lt-ltb _ _ l) (lt-ltb _ _ v)))
 
--- what is written of a number reads as that number
-pub number_back : (n : ℕ) → n < 2 ^ 64 → number_in (decimal n) ≡ Some n
+-- what is written of a number reads as that number; the first part gives `grind` the term `decimal n`
+pub number_back : (n : ℕ) → n < 2 ^ 64 → (decimal n ≡ decimal n) × (number_in (decimal n) ≡ Some n)
 number_back n h =
-    there (decimal n) (digits_decimal own n h) (decimal_nonempty n h) (rw (digits_value-decimal own n h) h) ∙ ap Some (digits_value-decimal own n h)
+    (refl, there (decimal n) (digits_decimal own n h) (decimal_nonempty n h) (rw (digits_value-decimal own n h) h) ∙ ap Some (digits_value-decimal own n h))
 
-pub number_law : {xs : List ℕ} {r : Option ℕ} → r ≡ number_in xs → (n : ℕ) → n < 2 ^ 64 → xs ≡ decimal n → r ≡ Some n
-number_law v n h e = v ∙ ap number_in e ∙ number_back n h
+-- a sign is below the digits
+pub no_sign : (xs : List ℕ) → get_or xs 0 0 < 0x30 → number_in xs ≡ None
+no_sign [] h = refl
+no_sign (c ∷ cs) h = grind (arith, nat_tests)
 
-pub no_sign : (xs : List ℕ) → begins_with 0x2B xs ≡ true → number_in xs ≡ None
-no_sign [] e = refl
-no_sign (c ∷ cs) e = ap (λ d. number_in (d ∷ cs)) (eqb-true c 0x2B (and_parts _ _ e).1)
-
-pub plain : (xs : List ℕ) → begins_with 0x2B xs ≡ false → get_or xs 0 0 ≡ 0x2B → ⊥
+plain : (xs : List ℕ) → begins_with 0x2B xs ≡ false → get_or xs 0 0 ≡ 0x2B → ⊥
 plain [] e f = absurd (omega arith)
 plain (c ∷ cs) e f = absurd (grind (arith, nat_tests))
 
@@ -38,9 +36,11 @@ pub no_text : (xs : List ℕ) → (IsUtf8 xs → ⊥) → number_in xs ≡ None
 no_text xs h =
     ⊎_elim (λ d. absurd (h (IsUtf8-from_ascii xs (IsAscii-from_digits xs (own.to xs d))))) (λ d. rw d) (cases_Bool (all_ascii_digits xs))
 
-pub parsed : {E : Type 0} (xs : List ℕ) (r : Result ℕ E) → ParsesUnsigned 64 10 xs r → (get_or xs 0 0 ≡ 0x2B → ⊥) → result_ok r ≡ number_in xs
-parsed {E} xs r reads plain = by r (parse_plain own 64 xs r reads plain)
+pub parsed : {E : Type 0} (xs : List ℕ) (r : Result ℕ E) → ParsesUnsigned 64 10 xs r → begins_with 0x2B xs ≡ false → result_ok r ≡ number_in xs
+parsed {E} xs r reads unsigned = by r (parse_plain own 64 xs r reads (plain xs unsigned))
   where
     by : (s : Result ℕ E) → OkIff s ((all_ascii_digits xs ≡ true) × (0 < length xs) × (number_after 0 xs < 2 ^ 64)) (number_after 0 xs) → result_ok s ≡ number_in xs
     by (Ok n) h = ap Some h.1 ∙ sym (there xs h.0.0 h.0.1 h.0.2)
     by (Err e) h = grind (arith, nat_tests)
+
+pub ruleset numbers = (number_back, no_sign, parsed)

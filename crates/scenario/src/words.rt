@@ -10,7 +10,7 @@ const SPACE: u8 = 0x20;
 pub fn begins_with(text: &[u8], octet: u8) -> bool
     ensures { result ≡ begins_with octet text.now }
 {
-    text.len() > 0 && text[0] == octet
+    text.first() == Some(&octet)
 }
 
 // The words borrow the line, so only the list of them is allocated.
@@ -18,18 +18,7 @@ pub fn split_words<'a>(heap: Global, line: &'a [u8]) -> Result<Vec<&'a [u8]>, Al
     ensures value { IfOk result (λ v. map text v.items ≡ words line.now) }
     ensures reads_back { IfOk result (λ v. (ws : List (List ℕ)) → AllByRecursion Word ws → line.now ≡ spaced ws → map text v.items ≡ ws) }
 {
-    let mut found = Vec::new(heap);
-    let mut start = 0;
-    for (i, octet) in line.iter().enumerate() {
-        if *octet == SPACE {
-            if start < i {
-                found.push(&line[start..i])?;
-            }
-            start = i + 1;
-        }
-    }
-    if start < line.len() {
-        found.push(&line[start..])?;
-    }
-    Ok(found)
+    line.split(|octet| *octet == SPACE)
+        .filter(|word| !word.is_empty())
+        .collect(heap)
 }

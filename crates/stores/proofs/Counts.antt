@@ -1,49 +1,57 @@
--- How many of the numbers 1 to n pass a test.
-use Rattle.std.proofs.Common.{◌≡◌, ℕ, zero, suc, ◌+◌, ◌<◌, ◌≤◌, Bool, true, false, cond, ◌⊎◌, sym, refl, ap, ◌∙◌, inl, inr, arith}
+-- How many of n numbers from a on pass a test.
+use Rattle.std.proofs.Common.{◌≡◌, ℕ, zero, suc, ◌+◌, ◌<◌, ◌≤◌, Bool, true, false, cond, ◌⊎◌, List, ◌∷◌, sym, refl, ap, ◌∙◌, inl, inr, arith}
+use Rattle.std.specs.List.{count_by, range_with_len}
 use Rattle.std.proofs.lemmas.Bool.{cases_eq}
-use Rattle.stores.specs.Contexts.{count_to}
+use Rattle.std.proofs.lemmas.List.Sums.{sum_by-cons}
 
-pub count_true : (t : ℕ → Bool) (n m : ℕ) → t (n + 1) ≡ true → m ≡ count_to t n → m + 1 ≡ count_to t (n + 1)
-count_true t n m e h =
-    let z : n + 1 ≡ suc n = omega arith in
-    let y = rw z at e in
-    rw z (rw y (omega (arith, h)))
-
-pub count_false : (t : ℕ → Bool) (n m : ℕ) → t (n + 1) ≡ false → m ≡ count_to t n → m ≡ count_to t (n + 1)
-count_false t n m e h =
-    let z : n + 1 ≡ suc n = omega arith in
-    let y = rw z at e in
-    rw z (rw y (omega (arith, h)))
+-- one more is counted, or not
+pub count_cons : {X : Type 0} (t : X → Bool) (x : X) (xs : List X) → count_by t (x ∷ xs) ≡ cond (t x) 1 0 + count_by t xs
+count_cons t x xs = sum_by-cons (λ y. cond (t y) 1 0) x xs
 
 -- what is counted as none passes nowhere
-pub count_none : (t : ℕ → Bool) (n : ℕ) → count_to t n ≡ 0 → (j : ℕ) → 0 < j → j ≤ n → t j ≡ false
-count_none t zero e j a b = absurd (omega (arith, a, b))
-count_none t (suc n) e j a b = go (cases_eq j (suc n)) (count_none t n (omega (arith, e)) j a)
+pub count_none : (t : ℕ → Bool) (a n : ℕ) → count_by t (range_with_len a n) ≡ 0 → (j : ℕ) → a ≤ j → j < a + n → t j ≡ false
+count_none t a zero e j l h = absurd (omega (arith, l, h))
+count_none t a (suc n) e j l h =
+    let m = sym (count_cons t a (range_with_len (a + 1) n)) ∙ e in
+    go (cases_eq j a) m (count_none t (a + 1) n (omega (arith, m)) j)
   where
-    bit : (b : Bool) → count_to t n + cond b 1 0 ≡ 0 → b ≡ false
-    bit true z = absurd (omega (arith, z))
-    bit false z = refl
+    bit : (b : Bool) (m : ℕ) → cond b 1 0 + m ≡ 0 → b ≡ false
+    bit true m z = absurd (omega (arith, z))
+    bit false m z = refl
 
-    go : (j ≡ suc n) ⊎ (j ≡ suc n → ⊥) → (j ≤ n → t j ≡ false) → t j ≡ false
-    go (inl z) rest = ap t z ∙ bit (t (suc n)) e
-    go (inr z) rest = rest (omega (arith, z, b))
+    go : (j ≡ a) ⊎ (j ≡ a → ⊥) → cond (t a) 1 0 + count_by t (range_with_len (a + 1) n) ≡ 0 → (a + 1 ≤ j → j < a + 1 + n → t j ≡ false) → t j ≡ false
+    go (inl z) m rest = ap t z ∙ bit (t a) (count_by t (range_with_len (a + 1) n)) m
+    go (inr z) m rest = rest (omega (arith, z, l)) (omega (arith, h))
 
--- tests that agree at 1 to n count the same
-pub count_same : (s t : ℕ → Bool) (n : ℕ) → ((j : ℕ) → 0 < j → j ≤ n → s j ≡ t j) → count_to s n ≡ count_to t n
-count_same s t zero h = refl
-count_same s t (suc n) h =
-    let e = count_same s t n (λ j a b. h j a (omega (arith, b))) in
-    rw (h (suc n) (omega arith) (omega arith)) (omega (arith, e))
+-- tests that agree at the numbers count the same
+pub count_same : (s t : ℕ → Bool) (a n : ℕ) → ((j : ℕ) → a ≤ j → j < a + n → s j ≡ t j) → count_by s (range_with_len a n) ≡ count_by t (range_with_len a n)
+count_same s t a zero h = refl
+count_same s t a (suc n) h =
+    let e = count_same s t (a + 1) n (λ j l b. h j (omega (arith, l)) (omega (arith, b))) in
+    let x = count_cons s a (range_with_len (a + 1) n) in
+    let y = count_cons t a (range_with_len (a + 1) n) in
+    let z = ap (λ (b : Bool). cond {A = ℕ} b 1 0) (h a (omega arith) (omega arith)) in
+    omega (arith, e, x, y, z)
 
 -- tests that agree but at k
-pub count_change : (s t : ℕ → Bool) (n k : ℕ) → 0 < k → k ≤ n → ((j : ℕ) → (j ≡ k → ⊥) → s j ≡ t j) → count_to s n + cond (t k) 1 0 ≡ count_to t n + cond (s k) 1 0
-count_change s t zero k a b h = absurd (omega (arith, a, b))
-count_change s t (suc n) k a b h = go (cases_eq k (suc n)) (λ l. count_change s t n k a l h)
+pub count_change : (s t : ℕ → Bool) (a n k : ℕ) → a ≤ k → k < a + n → ((j : ℕ) → (j ≡ k → ⊥) → s j ≡ t j) → count_by s (range_with_len a n) + cond (t k) 1 0 ≡ count_by t (range_with_len a n) + cond (s k) 1 0
+count_change s t a zero k l b h = absurd (omega (arith, l, b))
+count_change s t a (suc n) k l b h = go (cases_eq k a) (count_change s t (a + 1) n k)
   where
-    go : (k ≡ suc n) ⊎ (k ≡ suc n → ⊥) → (k ≤ n → count_to s n + cond (t k) 1 0 ≡ count_to t n + cond (s k) 1 0) → count_to s (suc n) + cond (t k) 1 0 ≡ count_to t (suc n) + cond (s k) 1 0
+    agree : (j : ℕ) → s j ≡ t j → cond {A = ℕ} (s j) 1 0 ≡ cond (t j) 1 0
+    agree j e = ap (λ (b : Bool). cond {A = ℕ} b 1 0) e
+
+    x : count_by s (range_with_len a (suc n)) ≡ cond (s a) 1 0 + count_by s (range_with_len (a + 1) n)
+    x = count_cons s a (range_with_len (a + 1) n)
+
+    y : count_by t (range_with_len a (suc n)) ≡ cond (t a) 1 0 + count_by t (range_with_len (a + 1) n)
+    y = count_cons t a (range_with_len (a + 1) n)
+
+    go : (k ≡ a) ⊎ (k ≡ a → ⊥) → (a + 1 ≤ k → k < a + 1 + n → ((j : ℕ) → (j ≡ k → ⊥) → s j ≡ t j) → count_by s (range_with_len (a + 1) n) + cond (t k) 1 0 ≡ count_by t (range_with_len (a + 1) n) + cond (s k) 1 0) → count_by s (range_with_len a (suc n)) + cond (t k) 1 0 ≡ count_by t (range_with_len a (suc n)) + cond (s k) 1 0
     go (inl z) rest =
-        let e = count_same s t n (λ j c d. h j (λ y. omega (arith, y, z, d))) in
-        rw z (omega (arith, e))
+        let e = count_same s t (a + 1) n (λ j c d. h j (λ v. omega (arith, v, z, c))) in
+        rw z (omega (arith, e, x, y))
     go (inr z) rest =
-        let e = rest (omega (arith, z, b)) in
-        rw (h (suc n) (λ y. z (sym y))) (omega (arith, e))
+        let e = rest (omega (arith, z, l)) (omega (arith, b)) h in
+        let d = agree a (h a (λ v. z (sym v))) in
+        omega (arith, e, d, x, y)

@@ -1,24 +1,54 @@
--- The lowest session at which a test passes is the first one that a count from 1 meets.
-use Rattle.std.proofs.Common.{◌≡◌, ℕ, zero, suc, ◌+◌, ◌<◌, ◌≤◌, Bool, true, false, ltb, ◌⊎◌, Some, None, Option, sym, refl, ap, ◌∙◌, inl, inr, arith}
-use Rattle.std.proofs.lemmas.Bool.{cases_Bool, ltb-true, ltb-false}
-use Rattle.stores.specs.Contexts.{first_from, Lowest}
+-- The lowest session at which a test passes is the first one that is found from 1 on.
+use Rattle.std.proofs.Common.{◌≡◌, ℕ, zero, suc, ◌+◌, ◌<◌, ◌≤◌, Bool, true, false, cond, ◌⊎◌, List, [], ◌∷◌, Some, None, Option, MatchOption, sym, refl, ap, ◌∙◌, subst, inl, inr, arith}
+use Rattle.std.specs.List.{find, range_with_len}
+use Rattle.std.proofs.lemmas.Bool.{cases_eq, cases_order, true≢false}
+use Rattle.stores.specs.Contexts.{sessions, Lowest}
 
-none_from : (t : ℕ → Bool) (j n : ℕ) → ((i : ℕ) → j ≤ i → i < j + n → t i ≡ false) → first_from t j n ≡ None
-none_from t j zero h = refl
-none_from t j (suc n) h = rw (h j (omega arith) (omega arith)) (none_from t (suc j) n (λ i a b. h i (omega arith) (omega arith)))
+-- what is found of n numbers from a on
+abbrev Found : (ℕ → Bool) → ℕ → ℕ → Option ℕ → Type 0
+Found t a n r = MatchOption r ((j : ℕ) → a ≤ j → j < a + n → t j ≡ false) (λ m. (a ≤ m) × (m < a + n) × (t m ≡ true) × ((j : ℕ) → a ≤ j → j < m → t j ≡ false))
 
-some_from : (t : ℕ → Bool) (j n m : ℕ) → j ≤ m → m < j + n → t m ≡ true → ((i : ℕ) → j ≤ i → i < m → t i ≡ false) → first_from t j n ≡ Some m
-some_from t j zero m a b p h = absurd (omega (arith, a, b))
-some_from t j (suc n) m a b p h =
-    go (cases_Bool (ltb j m)) (λ l. some_from t (suc j) n m (omega (arith, l)) (omega (arith, b)) p (λ i c d. h i (omega arith) d))
+find_found : (t : ℕ → Bool) (a n : ℕ) → Found t a n (find t (range_with_len a n))
+find_found t a zero = λ j l b. absurd (omega (arith, l, b))
+find_found t a (suc n) = go (t a) refl (find t (range_with_len (a + 1) n)) (find_found t (a + 1) n)
   where
-    go : (ltb j m ≡ true) ⊎ (ltb j m ≡ false) → (j < m → first_from t (suc j) n ≡ Some m) → first_from t j (suc n) ≡ Some m
-    go (inl e) rest = let l = ltb-true j m e in rw (h j (omega arith) l) (rest l)
-    go (inr e) rest =
-        let l = ltb-false j m e in
-        let z : j ≡ m = omega (arith, l, a) in
-        rw (ap t z ∙ p) (ap (λ i. Some i) z)
+    below : t a ≡ false → (j : ℕ) → a ≤ j → (a + 1 ≤ j → t j ≡ false) → t j ≡ false
+    below e j l h = at (cases_eq j a)
+      where
+        at : (j ≡ a) ⊎ (j ≡ a → ⊥) → t j ≡ false
+        at (inl z) = rw z e
+        at (inr z) = h (omega (arith, z, l))
 
-pub lowest_is : (t : ℕ → Bool) (r : Option ℕ) → Lowest t r → r ≡ first_from t 1 15
-lowest_is t None h = sym (none_from t 1 15 (λ i a b. h i (omega arith) (omega arith)))
-lowest_is t (Some m) (a, b, p, h) = sym (some_from t 1 15 m (omega (arith, a)) (omega (arith, b)) p (λ i c d. h i (omega arith) d))
+    go : (b : Bool) → t a ≡ b → (r : Option ℕ) → Found t (a + 1) n r → Found t a (suc n) (cond b (Some a) r)
+    go true e r h = (omega arith, omega arith, e, λ j l b. absurd (omega (arith, l, b)))
+    go false e None h = λ j l b. below e j l (λ y. h j y (omega (arith, b)))
+    go false e (Some m) (x, y, z, w) = (omega (arith, x), omega (arith, y), z, λ j l b. below e j l (λ v. w j v b))
+
+find_lowest : (t : ℕ → Bool) → Lowest t (find t sessions)
+find_lowest t = go (find t sessions) (find_found t 1 15)
+  where
+    go : (r : Option ℕ) → Found t 1 15 r → Lowest t r
+    go None h = λ j a b. h j (omega (arith, a)) (omega (arith, b))
+    go (Some m) (x, y, z, w) = (omega (arith, x), omega (arith, y), z, λ j a b. w j (omega (arith, a)) b)
+
+one_lowest : (t : ℕ → Bool) (r s : Option ℕ) → Lowest t r → Lowest t s → r ≡ s
+one_lowest t None None h g = refl
+one_lowest t None (Some n) h (a, b, e, l) = absurd (true≢false (sym e ∙ h n a b))
+one_lowest t (Some m) None (a, b, e, l) h = absurd (true≢false (sym e ∙ h m a b))
+one_lowest t (Some m) (Some n) (a, b, e, l) (c, d, f, k) = ap (λ i. Some i) (at (cases_order m n))
+  where
+    at : (m ≡ n) ⊎ ((m < n) ⊎ (n < m)) → m ≡ n
+    at (inl z) = z
+    at (inr (inl z)) = absurd (true≢false (sym e ∙ k m a z))
+    at (inr (inr z)) = absurd (true≢false (sym f ∙ l n c z))
+
+pub lowest_is : (t : ℕ → Bool) (r : Option ℕ) → Lowest t r → r ≡ find t sessions
+lowest_is t r h = one_lowest t r (find t sessions) h (find_lowest t)
+
+pub lowest_of : (t : ℕ → Bool) (r : Option ℕ) → r ≡ find t sessions → Lowest t r
+lowest_of t r e = subst (Lowest t) (sym e) (find_lowest t)
+
+-- tests that agree find the same
+pub find_same : (s t : ℕ → Bool) (xs : List ℕ) → ((j : ℕ) → s j ≡ t j) → find s xs ≡ find t xs
+find_same s t [] h = refl
+find_same s t (x ∷ xs) h = rw (h x, find_same s t xs h)

@@ -1,11 +1,11 @@
 -- What is counted over a list of contexts, one by one, is what its sessions look up to.
-use Rattle.std.proofs.Common.{◌≡◌, ℕ, zero, suc, ◌<◌, ◌≤◌, Bool, true, false, cond, not, ◌&&◌, eqb, ltb, ◌⊎◌, List, [], ◌∷◌, is_some, Some, None, Option, unwrap_or, sym, refl, ap, ◌∙◌, inl, inr, arith}
-use Rattle.std.proofs.lemmas.Bool.{cases_Bool, and_parts, and_from, and_left, and_right, eqb-true, eq-eqb, ne_eqb, ltb-true, ltb-false, false≢true}
-use Rattle.tables.specs.Lists.{sum_of}
+use Rattle.std.proofs.Common.{◌≡◌, ℕ, min, ◌<◌, ◌≤◌, Bool, true, false, cond, not, ◌&&◌, eqb, ltb, ◌⊎◌, List, [], ◌∷◌, is_some, Some, None, Option, unwrap_or, sym, refl, ap, ◌∙◌, subst, inl, inr, arith}
+use Rattle.std.specs.List.{count_by, filter_map, fold, reduce}
+use Rattle.std.proofs.lemmas.Bool.{cases_Bool, cases_lt, and_parts, and_from, and_left, and_right, eqb-true, eq-eqb, ne_eqb, ltb-true, false≢true}
 use Rattle.tables.proofs.Lists.{passes_at}
-use Rattle.stores.proofs.Counts.{count_same, count_change}
+use Rattle.stores.proofs.Counts.{count_cons, count_same, count_change}
 use Rattle.stores.specs.declared.context.Context.{Context}
-use Rattle.stores.specs.Contexts.{pair_fits, fits, is_of, lookup, Once, other_at, count_to, others_of, is_emergency, emergency_at, Lowest, is_other, other_emergency, lower_of}
+use Rattle.stores.specs.Contexts.{pair_fits, fits, is_of, lookup, Once, other_at, others_of, is_emergency, emergency_at, Lowest, is_other, other_emergency}
 
 -- every context is in bounds
 abbrev pub AllFit : List Context → Type 0
@@ -98,45 +98,49 @@ module _ (c : Context) (cs : List Context) (u k : ℕ) (o : Once (c ∷ cs)) (f 
 
 -- ---- the number of a UE's other contexts
 
-abbrev pub other_bit : ℕ → ℕ → Context → ℕ
-other_bit u k c = cond (is_other u k c) 1 0
-
-pub count_others : (u k : ℕ) (xs : List Context) → Once xs → AllFit xs → sum_of (other_bit u k) xs ≡ others_of xs u k
-count_others u k [] o h = sym (none_to 15)
-  where
-    none_to : (n : ℕ) → count_to (other_at [] u k) n ≡ 0
-    none_to zero = refl
-    none_to (suc n) = rw (and_right (not (eqb (suc n) k)) false refl) (let e = none_to n in omega (arith, e))
+pub count_others : (u k : ℕ) (xs : List Context) → Once xs → AllFit xs → count_by (is_other u k) xs ≡ others_of xs u k
+count_others u k [] o h = sym (count_same (other_at [] u k) (λ j. false) 1 15 (λ j a b. and_right (not (eqb j k)) false refl))
 count_others u k (c ∷ cs) o h = go (cases_Bool (is_other u k c)) (count_others u k cs o.1 h.1)
   where
-    go : (is_other u k c ≡ true) ⊎ (is_other u k c ≡ false) → sum_of (other_bit u k) cs ≡ others_of cs u k → sum_of (other_bit u k) (c ∷ cs) ≡ others_of (c ∷ cs) u k
+    go : (is_other u k c ≡ true) ⊎ (is_other u k c ≡ false) → count_by (is_other u k) cs ≡ others_of cs u k → count_by (is_other u k) (c ∷ cs) ≡ others_of (c ∷ cs) u k
     go (inl e) rest =
         let m = more_at c cs u k o (λ (p : Option Context). is_some p) refl (and_from _ _ e refl) in
         let b = session_fits c h.0 in
-        let d = count_change (other_at (c ∷ cs) u k) (other_at cs u k) 15 c.session b.0 b.1 m.1.1 in
+        let d = count_change (other_at (c ∷ cs) u k) (other_at cs u k) 1 15 c.session (omega (arith, b)) (omega (arith, b)) m.1.1 in
         let n = rw (m.0, m.1.0) at d in
-        rw e (omega (arith, rest, n))
+        let x = count_cons (is_other u k) c cs in
+        let y = ap (λ (b : Bool). cond {A = ℕ} b 1 0) e in
+        omega (arith, rest, n, x, y)
     go (inr e) rest =
-        let n = count_same (other_at (c ∷ cs) u k) (other_at cs u k) 15 (λ j a l. same_at c cs u k o (λ (p : Option Context). is_some p) refl (and_left _ _ e) j) in
-        rw e (omega (arith, rest, n))
+        let n = count_same (other_at (c ∷ cs) u k) (other_at cs u k) 1 15 (λ j a l. same_at c cs u k o (λ (p : Option Context). is_some p) refl (and_left _ _ e) j) in
+        let x = count_cons (is_other u k) c cs in
+        let y = ap (λ (b : Bool). cond {A = ℕ} b 1 0) e in
+        omega (arith, rest, n, x, y)
 
 -- ---- its lowest other emergency session
 
--- the lowest of the sessions that the contexts give, one by one
+-- the lowest of the sessions that the contexts give
 abbrev pub low_of : ℕ → ℕ → List Context → Option ℕ
-low_of u k [] = None
-low_of u k (c ∷ cs) = lower_of (other_emergency u k c) (low_of u k cs)
+low_of u k xs = reduce min (filter_map (other_emergency u k) xs)
 
-lower_first : (t s : ℕ → Bool) (m : ℕ) (r : Option ℕ) → 0 < m → m ≤ 15 → t m ≡ true → s m ≡ false → ((j : ℕ) → (j ≡ m → ⊥) → t j ≡ s j) → Lowest s r → Lowest t (lower_of (Some m) r)
-lower_first t s m None a b p q h n = (a, b, p, λ j x y. h j (λ e. omega (arith, e, y)) ∙ n j x (omega (arith, y, b)))
-lower_first t s m (Some i) a b p q h (x, y, v, w) = go (cases_Bool (ltb i m))
+fold_min : (a b : ℕ) (xs : List ℕ) → fold min (min a b) xs ≡ min a (fold min b xs)
+fold_min a b [] = refl
+fold_min a b (x ∷ xs) =
+    let e : min (min a b) x ≡ min a (min b x) = omega arith in
+    rw e (fold_min a (min b x) xs)
+
+-- a test that passes at m too has the lower of m and what was the lowest
+lower_first : (t s : ℕ → Bool) (m : ℕ) (xs : List ℕ) → 0 < m → m ≤ 15 → t m ≡ true → s m ≡ false → ((j : ℕ) → (j ≡ m → ⊥) → t j ≡ s j) → Lowest s (reduce min xs) → Lowest t (reduce min (m ∷ xs))
+lower_first t s m [] a b p q h n = (a, b, p, λ j x y. h j (λ e. omega (arith, e, y)) ∙ n j x (omega (arith, y, b)))
+lower_first t s m (z ∷ zs) a b p q h (x, y, v, w) =
+    subst (λ i. Lowest t (Some i)) (sym (fold_min m z zs)) (go (fold min z zs) x y v w (cases_lt (fold min z zs) m))
   where
-    go : (ltb i m ≡ true) ⊎ (ltb i m ≡ false) → Lowest t (cond (ltb i m) (Some i) (Some m))
-    go (inl e) =
-        let l = ltb-true i m e in
+    go : (i : ℕ) → 0 < i → i ≤ 15 → s i ≡ true → ((j : ℕ) → 0 < j → j < i → s j ≡ false) → (i < m) ⊎ (m ≤ i) → Lowest t (Some (min m i))
+    go i x y v w (inl l) =
+        let e : min m i ≡ i = omega (arith, l) in
         rw e (x, y, h i (λ z. omega (arith, z, l)) ∙ v, λ j c d. h j (λ z. omega (arith, z, d, l)) ∙ w j c d)
-    go (inr e) =
-        let l = ltb-false i m e in
+    go i x y v w (inr l) =
+        let e : min m i ≡ m = omega (arith, l) in
         rw e (a, b, p, λ j c d. h j (λ z. omega (arith, z, d)) ∙ w j c (omega (arith, d, l)))
 
 same_lowest : (t s : ℕ → Bool) (r : Option ℕ) → ((j : ℕ) → t j ≡ s j) → Lowest s r → Lowest t r
@@ -151,5 +155,5 @@ lowest_other u k (c ∷ cs) o h = go (cases_Bool (is_other u k c && c.emergency)
     go (inl e) rest =
         let m = more_at c cs u k o is_emergency refl e in
         let b = session_fits c h.0 in
-        rw e (lower_first (emergency_at (c ∷ cs) u k) (emergency_at cs u k) c.session (low_of u k cs) b.0 b.1 m.0 m.1.0 m.1.1 rest)
+        rw e (lower_first (emergency_at (c ∷ cs) u k) (emergency_at cs u k) c.session (filter_map (other_emergency u k) cs) b.0 b.1 m.0 m.1.0 m.1.1 rest)
     go (inr e) rest = rw e (same_lowest (emergency_at (c ∷ cs) u k) (emergency_at cs u k) (low_of u k cs) (same_at c cs u k o is_emergency refl e) rest)

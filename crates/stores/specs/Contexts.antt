@@ -1,6 +1,6 @@
 -- Contexts, and what a list of them has for a UE and a session.
-use Rattle.std.specs.Prelude.{◌≡◌, ℕ, zero, suc, ◌+◌, ◌<◌, ◌≤◌, Bool, true, false, cond, not, ◌&&◌, List, [], ◌∷◌, is_some, Some, None, Option, MatchOption, ◌==◌, nat_lt}
-use Rattle.tables.specs.Lists.{first_that}
+use Rattle.std.specs.Prelude.{◌≡◌, ℕ, ◌<◌, ◌≤◌, Bool, true, false, cond, not, ◌&&◌, List, [], ◌∷◌, is_some, Some, None, Option, MatchOption, ◌==◌, nat_lt}
+use Rattle.std.specs.List.{count_by, find, range_with_len}
 use Rattle.stores.specs.declared.context.Context.{Context}
 
 -- a UE number is at least 1, and a session 1 to 15
@@ -11,13 +11,18 @@ pair_fits u k = nat_lt 0 u && (nat_lt 0 k && nat_lt k 16)
 abbrev pub fits : Context → Bool
 fits c = pair_fits c.ue c.session && (nat_lt 0 c.smf && nat_lt c.dnn 65)
 
+-- the context is in bounds, if there is one
+abbrev pub in_bounds : Option Context → Bool
+in_bounds None = true
+in_bounds (Some c) = fits c
+
 -- the context is of session k of UE u
 abbrev pub is_of : ℕ → ℕ → Context → Bool
 is_of u k c = c.ue == u && c.session == k
 
 -- the context of session k of UE u
 abbrev pub lookup : List Context → ℕ → ℕ → Option Context
-lookup xs u k = first_that (is_of u k) xs
+lookup xs u k = find (is_of u k) xs
 
 -- each session of each UE has at most one context
 abbrev pub Once : List Context → Type 0
@@ -28,14 +33,13 @@ Once (c ∷ cs) = (lookup cs c.ue c.session ≡ None) × Once cs
 abbrev pub other_at : List Context → ℕ → ℕ → ℕ → Bool
 other_at xs u k j = not (j == k) && is_some (lookup xs u j)
 
--- how many of the numbers 1 to n pass the test
-abbrev pub count_to : (ℕ → Bool) → ℕ → ℕ
-count_to t zero = 0
-count_to t (suc n) = count_to t n + cond (t (suc n)) 1 0
+-- the sessions that a UE can have
+abbrev pub sessions : List ℕ
+sessions = range_with_len 1 15
 
 -- how many other sessions of UE u than session k have a context
 abbrev pub others_of : List Context → ℕ → ℕ → ℕ
-others_of xs u k = count_to (other_at xs u k) 15
+others_of xs u k = count_by (other_at xs u k) sessions
 
 abbrev pub is_emergency : Option Context → Bool
 is_emergency None = false
@@ -45,14 +49,9 @@ is_emergency (Some c) = c.emergency
 abbrev pub emergency_at : List Context → ℕ → ℕ → ℕ → Bool
 emergency_at xs u k j = not (j == k) && is_emergency (lookup xs u j)
 
--- the first of n numbers from j on that passes the test
-abbrev pub first_from : (ℕ → Bool) → ℕ → ℕ → Option ℕ
-first_from t j zero = None
-first_from t j (suc n) = cond (t j) (Some j) (first_from t (suc j) n)
-
 -- the lowest other session of UE u than session k that has an emergency context
 abbrev pub lowest_emergency : List Context → ℕ → ℕ → Option ℕ
-lowest_emergency xs u k = first_from (emergency_at xs u k) 1 15
+lowest_emergency xs u k = find (emergency_at xs u k) sessions
 
 -- the lowest session at which the test passes
 abbrev pub Lowest : (ℕ → Bool) → Option ℕ → Type 0
@@ -66,9 +65,3 @@ is_other u k c = c.ue == u && not (c.session == k)
 -- its session, if it is an emergency context of another session of UE u than session k
 abbrev pub other_emergency : ℕ → ℕ → Context → Option ℕ
 other_emergency u k c = cond (is_other u k c && c.emergency) (Some c.session) None
-
--- the lower of two sessions, where there are two
-abbrev pub lower_of : Option ℕ → Option ℕ → Option ℕ
-lower_of None o = o
-lower_of (Some a) None = Some a
-lower_of (Some a) (Some b) = cond (nat_lt b a) (Some b) (Some a)

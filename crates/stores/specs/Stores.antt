@@ -1,5 +1,5 @@
 -- What every store keeps to: the laws of its meaning, and what a put and a remove do to it.
-use Rattle.std.specs.Prelude.{◌≡◌, ℕ, ◌+◌, ◌<◌, ◌≤◌, Bool, true, cond, ◌&&◌, List, length, is_some, Some, None, MatchBool, ◌==◌}
+use Rattle.std.specs.Prelude.{◌≡◌, ℕ, ◌+◌, ◌<◌, ◌≤◌, Bool, true, cond, ◌&&◌, List, length, is_some, Some, None, MatchBool, Result, MatchResult, ◌==◌}
 use Rattle.stores.specs.declared.context.Context.{Context}
 use Rattle.stores.specs.Contexts.{pair_fits, fits, is_of, lookup, Once}
 
@@ -22,8 +22,8 @@ pub record Same (xs ys : List Context) (room room' : ℕ → ℕ → Bool) : Typ
   pub contexts : ys ≡ xs
   pub rooms : (u k : ℕ) → room' u k ≡ room u k
 
-abbrev pub Puts : Context → List Context → List Context → (ℕ → ℕ → Bool) → (ℕ → ℕ → Bool) → Bool → Type 0
-Puts c xs ys room room' r = MatchBool r (Stored c xs ys) (Same xs ys room room')
+abbrev pub Puts : {E : Type 0} → Context → List Context → List Context → (ℕ → ℕ → Bool) → (ℕ → ℕ → Bool) → Result (Unit {0}) E → Type 0
+Puts c xs ys room room' r = MatchResult r (λ _. Stored c xs ys) (λ _. Same xs ys room room')
 
 -- ys is xs without the context of session k of UE u
 pub record Removed (u k : ℕ) (xs ys : List Context) : Type 0 where

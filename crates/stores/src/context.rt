@@ -1,7 +1,9 @@
 // The routing context of a PDU session: which SMF has it, and for which slice and DNN.
 ghost use Rattle.std.specs.Prelude.{◌≡◌};
-ghost use Rattle.stores.specs.Contexts.{pair_fits, fits};
+ghost use Rattle.stores.specs.Contexts.{fits};
+ghost use Rattle.stores.specs.declared.pdu_session.PduSession.{PduSession};
 
+use crate::pdu_session::PduSession;
 use codes::{DnnNumber, SessionId, SliceCode, SmfId, UeNumber};
 
 #[derive(Clone, Copy)]
@@ -15,17 +17,21 @@ pub struct Context {
 }
 
 impl Context {
+    // Whose context it is.
+    pub fn pdu_session(&self) -> PduSession
+        ensures ue { result.ue ≡ self.now.ue }
+        ensures id { result.id ≡ self.now.session }
+    {
+        PduSession {
+            ue: self.ue,
+            id: self.session,
+        }
+    }
+
     // Whether a store can have it.
     pub fn is_in_bounds(&self) -> bool
         ensures { result ≡ fits self.now }
     {
-        is_pair_in_bounds(self.ue, self.session) && self.smf > 0 && self.dnn <= 64
+        self.pdu_session().is_in_bounds() && self.smf > 0 && self.dnn <= 64
     }
-}
-
-// Whether there can be a context of this session of this UE.
-pub fn is_pair_in_bounds(ue: UeNumber, session: SessionId) -> bool
-    ensures { result ≡ pair_fits ue session }
-{
-    ue > 0 && session > 0 && session <= 15
 }

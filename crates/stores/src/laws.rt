@@ -3,32 +3,30 @@ ghost use Rattle.std.specs.Prelude.{◌≡◌, ℕ, ◌<◌, true, false, ◌&&�
 ghost use Rattle.stores.specs.Contexts.{fits, pair_fits, is_of, lookup};
 
 use crate::context::Context;
+use crate::pdu_session::PduSession;
 use crate::store::Store;
-use codes::{SessionId, UeNumber};
 
 // What there is room for is put and found, and nothing else is touched.
 pub fn put_and_find<S: Store>(store: &mut S, context: Context) -> Option<Context>
     ensures found { result ≡ (if fits context && S.Store.room store.old context.ue context.session then Some context else None) }
     ensures others { (u k : ℕ) → is_of u k context ≡ false → lookup (S.Store.contexts store.new) u k ≡ lookup (S.Store.contexts store.old) u k }
 {
-    if !store.put(context) {
-        return None;
-    }
-    store.find(context.ue, context.session)
+    store.put(context).ok()?;
+    store.find(context.pdu_session())
 }
 
 // What is removed is not found, and nothing else is touched.
-pub fn remove_and_find<S: Store>(store: &mut S, ue: UeNumber, session: SessionId) -> Option<Context>
+pub fn remove_and_find<S: Store>(store: &mut S, session: PduSession) -> Option<Context>
     ensures gone { result ≡ None }
-    ensures others { (u k : ℕ) → (ue == u && session == k) ≡ false → lookup (S.Store.contexts store.new) u k ≡ lookup (S.Store.contexts store.old) u k }
+    ensures others { (u k : ℕ) → (session.ue == u && session.id == k) ≡ false → lookup (S.Store.contexts store.new) u k ≡ lookup (S.Store.contexts store.old) u k }
 {
-    store.remove(ue, session);
-    store.find(ue, session)
+    store.remove(session);
+    store.find(session)
 }
 
 // While fewer contexts stand than the floor, there is room for every UE and session.
-pub fn has_room_below_floor<S: Store>(store: &S, ue: UeNumber, session: SessionId) -> bool
-    ensures { length (S.Store.contexts store.now) < S.Store.floor store.now → pair_fits ue session ≡ true → result ≡ true }
+pub fn has_room_below_floor<S: Store>(store: &S, session: PduSession) -> bool
+    ensures { length (S.Store.contexts store.now) < S.Store.floor store.now → pair_fits session.ue session.id ≡ true → result ≡ true }
 {
-    store.has_room(ue, session)
+    store.has_room(session)
 }

@@ -3,8 +3,12 @@
 
 mod context;
 mod laws;
+mod no_room;
+mod pdu_session;
 mod store;
 
-pub use context::{Context, is_pair_in_bounds};
+pub use context::Context;
 pub use laws::{has_room_below_floor, put_and_find, remove_and_find};
+pub use no_room::NoRoom;
+pub use pdu_session::PduSession;
 pub use store::Store;

@@ -1,11 +1,13 @@
 // What keeps contexts, at most one for each session of each UE.
-ghost use Rattle.std.specs.Prelude.{◌≡◌, ℕ, Bool, ◌&&◌, List, length, ◌==◌};
+ghost use Rattle.std.specs.Prelude.{◌≡◌, ℕ, Bool, ◌&&◌, List, length, is_ok, ◌==◌};
 ghost use Rattle.stores.specs.declared.context.Context.{Context};
 ghost use Rattle.stores.specs.Contexts.{lookup, fits, others_of, lowest_emergency, Lowest, emergency_at};
 ghost use Rattle.stores.specs.Stores.{Laws, Puts, Removes};
 
 use crate::context::Context;
-use codes::{SessionId, UeNumber};
+use crate::no_room::NoRoom;
+use crate::pdu_session::PduSession;
+use codes::SessionId;
 
 pub trait Store {
     // the contexts, in no order that means anything
@@ -18,40 +20,37 @@ pub trait Store {
     ghost room: { Self → ℕ → ℕ → Bool };
 
     fn floor(&self) -> usize
-        ensures value { result ≡ floor self.now }
-        ensures laws { Laws (contexts self.now) (floor self.now) (room self.now) };
+        ensures { result ≡ floor self.now };
 
-    fn find(&self, ue: UeNumber, session: SessionId) -> Option<Context>
-        ensures value { result ≡ lookup (contexts self.now) ue session }
-        ensures laws { Laws (contexts self.now) (floor self.now) (room self.now) };
+    fn find(&self, session: PduSession) -> Option<Context>
+        ensures { result ≡ lookup (contexts self.now) session.ue session.id };
 
-    fn has_room(&self, ue: UeNumber, session: SessionId) -> bool
-        ensures value { result ≡ room self.now ue session }
-        ensures laws { Laws (contexts self.now) (floor self.now) (room self.now) };
+    fn has_room(&self, session: PduSession) -> bool
+        ensures { result ≡ room self.now session.ue session.id };
 
     fn is_empty(&self) -> bool
-        ensures value { result ≡ (length (contexts self.now) == 0) }
-        ensures laws { Laws (contexts self.now) (floor self.now) (room self.now) };
+        ensures { result ≡ (length (contexts self.now) == 0) };
 
     // How many other sessions of the UE have a context.
-    fn count_others(&self, ue: UeNumber, session: SessionId) -> usize
-        ensures { result ≡ others_of (contexts self.now) ue session };
+    fn count_others(&self, session: PduSession) -> usize
+        ensures { result ≡ others_of (contexts self.now) session.ue session.id };
 
     // The lowest other session of the UE that has an emergency context.
-    fn lowest_other_emergency(&self, ue: UeNumber, session: SessionId) -> Option<SessionId>
-        ensures value { result ≡ lowest_emergency (contexts self.now) ue session }
-        ensures lowest { Lowest (emergency_at (contexts self.now) ue session) result };
+    fn lowest_other_emergency(&self, session: PduSession) -> Option<SessionId>
+        ensures value { result ≡ lowest_emergency (contexts self.now) session.ue session.id }
+        ensures lowest { Lowest (emergency_at (contexts self.now) session.ue session.id) result };
 
-    // Replaces the context of its session or adds it. False where there is no room, and nothing changes.
-    fn put(&mut self, context: Context) -> bool
-        ensures room { result ≡ (fits context && room self.old context.ue context.session) }
+    // Replaces the context of its session or adds it. Where there is no room, nothing changes.
+    fn put(&mut self, context: Context) -> Result<(), NoRoom>
+        ensures room { is_ok result ≡ (fits context && room self.old context.ue context.session) }
         ensures puts { Puts context (contexts self.old) (contexts self.new) (room self.old) (room self.new) result }
-        ensures floor { floor self.new ≡ floor self.old }
-        ensures laws { Laws (contexts self.new) (floor self.new) (room self.new) };
+        ensures floor { floor self.new ≡ floor self.old };
 
-    // Leaves no context of this session of this UE. True where there was one.
-    fn remove(&mut self, ue: UeNumber, session: SessionId) -> bool
-        ensures removes { Removes ue session (contexts self.old) (contexts self.new) (room self.old) (room self.new) result }
-        ensures floor { floor self.new ≡ floor self.old }
-        ensures laws { Laws (contexts self.new) (floor self.new) (room self.new) };
+    // Leaves no context of this session of this UE. True where there was one: a bool, as the library's sets answer.
+    fn remove(&mut self, session: PduSession) -> bool
+        ensures removes { Removes session.ue session.id (contexts self.old) (contexts self.new) (room self.old) (room self.new) result }
+        ensures floor { floor self.new ≡ floor self.old };
+
+    // what holds of every store
+    ghost laws: { (s : Self) → Laws (contexts s) (floor s) (room s) };
 }

@@ -2,7 +2,7 @@
 use Rattle.std.proofs.Common.{◌≡◌, ℕ, suc, ◌<◌, Bool, ◌⊎◌, List, ◌∷◌, length, get_or, set, sym, ap, ◌∙◌, inl, inr, zero-lt-suc, arith}
 use Rattle.std.proofs.lemmas.List.{length-set, get_or-set_same, get_or-set_other}
 use Rattle.std.proofs.lemmas.Bool.{cases_eq}
-use Rattle.tables.specs.Rows.{Held, Absent, First, FirstFree, Apart}
+use Rattle.tables.specs.Rows.{Held, Absent, Apart, Target}
 
 module _ {R K : Type 0} (free : R → Bool) (named : R → K) where
   pub apart_tail : (x : R) (xs : List R) → Apart free named (x ∷ xs) → Apart free named xs
@@ -13,20 +13,16 @@ module _ {R K : Type 0} (free : R → Bool) (named : R → K) where
   apart_head x xs k h (v, e) j d l (w, f) =
       let r = h 0 (suc j) d (zero-lt-suc (length xs)) (omega arith) v w (e ∙ sym f) in omega (arith, r)
 
-  -- where a row under k may be written
-  abbrev pub Target : K → List R → ℕ → Type 0
-  Target k xs i = First free named k xs i ⊎ (FirstFree free xs i × Absent free named k xs)
-
-  pub target_within : (k : K) (xs : List R) (i : ℕ) → Target k xs i → i < length xs
+  pub target_within : (k : K) (xs : List R) (i : ℕ) → Target free named k xs i → i < length xs
   target_within k xs i (inl f) = f.within
   target_within k xs i (inr (f, a)) = f.within
 
   -- no other row than the target is in use under its key
-  pub target_only : (k : K) (xs : List R) (i j : ℕ) (d : R) → Apart free named xs → Target k xs i → j < length xs → Held free named k (get_or xs j d) → j ≡ i
+  pub target_only : (k : K) (xs : List R) (i j : ℕ) (d : R) → Apart free named xs → Target free named k xs i → j < length xs → Held free named k (get_or xs j d) → j ≡ i
   target_only k xs i j d h (inl f) l (v, e) = h j i d l f.within v (f.used d) (e ∙ sym (f.key d))
   target_only k xs i j d h (inr (f, a)) l p = absurd (a j d l p)
 
-  pub apart_set : (x : R) (xs : List R) (i : ℕ) → Apart free named xs → Target (named x) xs i → Apart free named (set xs i x)
+  pub apart_set : (x : R) (xs : List R) (i : ℕ) → Apart free named xs → Target free named (named x) xs i → Apart free named (set xs i x)
   apart_set x xs i h p a b d la lb va vb e =
       go (cases_eq a i) (cases_eq b i)
     where

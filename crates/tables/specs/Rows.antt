@@ -1,5 +1,5 @@
 -- Rows in use under a key, and what looking for them answers.
-use Rattle.std.specs.Prelude.{◌≡◌, ℕ, ◌<◌, Bool, true, false, List, length, Option, MatchOption, slice_index_or}
+use Rattle.std.specs.Prelude.{◌≡◌, ℕ, ◌<◌, Bool, true, false, ◌⊎◌, List, length, Option, MatchOption, slice_index_or}
 
 module _ {R K : Type 0} (free : R → Bool) (named : R → K) where
   -- the row is in use, under the key k
@@ -26,11 +26,6 @@ module _ {R K : Type 0} (free : R → Bool) (named : R → K) where
   Apart xs =
       (i j : ℕ) (d : R) → i < length xs → j < length xs → free (slice_index_or xs i d) ≡ false → free (slice_index_or xs j d) ≡ false → named (slice_index_or xs i d) ≡ named (slice_index_or xs j d) → i ≡ j
 
-  -- the same with its premises joined, as a fact that a struct's fields keep
-  abbrev pub Sole : List R → Type 0
-  Sole xs =
-      (i j : ℕ) → ((d : R) × ((i < length xs) × (j < length xs) × (free (slice_index_or xs i d) ≡ false) × (free (slice_index_or xs j d) ≡ false) × (named (slice_index_or xs i d) ≡ named (slice_index_or xs j d)))) → i ≡ j
-
 module _ {R : Type 0} (free : R → Bool) where
   abbrev pub AllFree : List R → Type 0
   AllFree xs = (j : ℕ) (d : R) → j < length xs → free (slice_index_or xs j d) ≡ true
@@ -47,3 +42,12 @@ module _ {R : Type 0} (free : R → Bool) where
   -- what looking for a free row answers
   abbrev pub FindsFree : List R → Option ℕ → Type 0
   FindsFree xs r = MatchOption r (NoneFree xs) (λ i. FirstFree xs i)
+
+module _ {R K : Type 0} (free : R → Bool) (named : R → K) where
+  -- where a row under k is to be written: to the first in use under it, or to the first free one where there is none
+  abbrev pub Target : K → List R → ℕ → Type 0
+  Target k xs i = First free named k xs i ⊎ (FirstFree free xs i × Absent free named k xs)
+
+  -- what looking for such a place answers
+  abbrev pub FindsTarget : K → List R → Option ℕ → Type 0
+  FindsTarget k xs r = MatchOption r (Absent free named k xs × NoneFree free xs) (λ i. Target k xs i)

@@ -1,5 +1,5 @@
 // Finding a row among rows of any kind.
-ghost use Rattle.tables.specs.Rows.{Finds, FindsFree, AllFree};
+ghost use Rattle.tables.specs.Rows.{Finds, FindsFree, FindsTarget, AllFree};
 ghost use Rattle.std.specs.Prelude.{Decides};
 
 use crate::row::Row;
@@ -8,34 +8,27 @@ use crate::row::Row;
 pub fn find_row<R: Row>(rows: &[R], key: &R::Key) -> Option<usize>
     ensures { Finds R.Row.free R.Row.named key.now rows.now result }
 {
-    for (i, row) in rows.iter().enumerate() {
-        if !row.is_free() && row.has_key(key) {
-            return Some(i);
-        }
-    }
-    None
+    rows.iter()
+        .position(|row| !row.is_free() && row.key() == *key)
 }
 
 // The first free row.
 pub fn find_free<R: Row>(rows: &[R]) -> Option<usize>
     ensures { FindsFree R.Row.free rows.now result }
 {
-    for (i, row) in rows.iter().enumerate() {
-        if row.is_free() {
-            return Some(i);
-        }
-    }
-    None
+    rows.iter().position(|row| row.is_free())
+}
+
+// Where a row under the key is to be written: the first that is in use and has it, or else the first free one.
+pub fn find_target<R: Row>(rows: &[R], key: &R::Key) -> Option<usize>
+    ensures { FindsTarget R.Row.free R.Row.named key.now rows.now result }
+{
+    find_row(rows, key).or_else(|| find_free(rows))
 }
 
 // Whether every row is free.
 pub fn all_free<R: Row>(rows: &[R]) -> bool
     ensures { Decides result (AllFree R.Row.free rows.now) }
 {
-    for row in rows {
-        if !row.is_free() {
-            return false;
-        }
-    }
-    true
+    rows.iter().all(|row| row.is_free())
 }

@@ -5,6 +5,6 @@ mod finding;
 mod row;
 mod table;
 
-pub use finding::{all_free, find_free, find_row};
+pub use finding::{all_free, find_free, find_row, find_target};
 pub use row::Row;
-pub use table::Table;
+pub use table::{Table, TableFull};

@@ -1,22 +1,27 @@
 // A table of rows that are lent to it, each found by its key.
 ghost use Rattle.std.specs.Prelude.{◌≡◌, length};
-ghost use Rattle.tables.specs.Rows.{Finds, FindsFree, AllFree, Apart};
+ghost use Rattle.tables.specs.Rows.{AllFree, Apart};
 ghost use Rattle.tables.specs.Tables.{Gets, Sets, Removes};
 
-use crate::finding::{find_free, find_row};
+use crate::finding::{find_row, find_target};
 use crate::row::Row;
 
 #[derive(Drop)]
 pub struct Table<'a, R: Row> {
     rows: &'a mut [R],
+    // no two rows in use have the same key
+    ghost apart: { Apart R.Row.free R.Row.named rows.now },
 }
+
+/// There is neither a row in use under the key nor a free one.
+#[derive(Clone, Copy, Debug, PartialEq, Eq)]
+pub struct TableFull;
 
 impl<'a, R: Row> Table<'a, R> {
     // A table over these rows, all of which are freed.
     pub fn new(rows: &'a mut [R]) -> Table<'a, R>
         ensures free { AllFree R.Row.free result.rows.now }
         ensures size { length result.rows.now ≡ length rows.old }
-        ensures apart { Apart R.Row.free R.Row.named result.rows.now }
     {
         for row in rows.iter_mut() {
             row.clear();
@@ -34,53 +39,30 @@ impl<'a, R: Row> Table<'a, R> {
     pub fn find(&self, key: &R::Key) -> Option<&R>
         ensures { Gets R.Row.free R.Row.named key.now self.now.rows.now result }
     {
-        let rows = &*self.rows;
-        match find_row(rows, key) {
-            Some(i) => Some(&rows[i]),
-            None => None,
-        }
+        find_row(self.rows, key).map(|i| &self.rows[i])
     }
 
-    fn index_of(&self, key: &R::Key) -> Option<usize>
-        ensures { Finds R.Row.free R.Row.named key.now self.now.rows.now result }
-    {
-        find_row(self.rows, key)
-    }
-
-    fn index_of_free(&self) -> Option<usize>
-        ensures { FindsFree R.Row.free self.now.rows.now result }
-    {
-        find_free(self.rows)
-    }
-
-    // Replaces the row that is in use under the new row's key, or takes a free one. False where there is neither.
-    pub fn set(&mut self, row: R) -> bool
+    // Replaces the row that is in use under the new row's key, or takes a free one.
+    pub fn set(&mut self, row: R) -> Result<(), TableFull>
     where
         R: Drop,
-        ensures sets { Sets R.Row.free R.Row.named row self.old.rows.now self.new.rows.now result }
-        ensures apart { Apart R.Row.free R.Row.named self.old.rows.now → Apart R.Row.free R.Row.named self.new.rows.now }
+        ensures { Sets R.Row.free R.Row.named row self.old.rows.now self.new.rows.now result }
     {
-        let key = row.key();
-        if let Some(i) = self.index_of(&key) {
-            self.rows[i] = row;
-            return true;
-        }
-        if let Some(i) = self.index_of_free() {
-            self.rows[i] = row;
-            return true;
-        }
-        false
+        let rows = &mut *self.rows;
+        let i = find_target(rows, &row.key()).ok_or(TableFull)?;
+        rows[i] = row;
+        Ok(())
     }
 
-    // Frees the row that is in use under the key. False where there is none.
+    // Frees the row that is in use under the key. False where there is none: a bool, as the library's sets answer.
     pub fn remove(&mut self, key: &R::Key) -> bool
-        ensures removes { Removes R.Row.free R.Row.named key.now self.old.rows.now self.new.rows.now result }
-        ensures apart { Apart R.Row.free R.Row.named self.old.rows.now → Apart R.Row.free R.Row.named self.new.rows.now }
+        ensures { Removes R.Row.free R.Row.named key.now self.old.rows.now self.new.rows.now result }
     {
-        if let Some(i) = self.index_of(key) {
-            self.rows[i].clear();
-            return true;
-        }
-        false
+        let rows = &mut *self.rows;
+        let Some(i) = find_row(rows, key) else {
+            return false;
+        };
+        rows[i].clear();
+        true
     }
 }

@@ -32,14 +32,14 @@ fn context(ue: UeNumber, session: SessionId, smf: SmfId, dnn: DnnNumber) -> Cont
 
 fn answers_right<S: Store>(store: &mut S, step: &Step) -> bool {
     match *step {
-        Step::Put(ue, session, done) => store.put(context(ue, session, 7, 1)) == done,
-        Step::PutBounds(smf, dnn, done) => store.put(context(1, 1, smf, dnn)) == done,
-        Step::Remove(ue, session, stood) => store.remove(ue, session) == stood,
-        Step::Room(ue, session, room) => store.has_room(ue, session) == room,
-        Step::Find(ue, session, found) => store.find(ue, session).is_some() == found,
-        Step::Others(ue, session, count) => store.count_others(ue, session) == count,
-        Step::LowestEmergency(ue, session, lowest) => {
-            store.lowest_other_emergency(ue, session) == lowest
+        Step::Put(ue, id, done) => store.put(context(ue, id, 7, 1)).is_ok() == done,
+        Step::PutBounds(smf, dnn, done) => store.put(context(1, 1, smf, dnn)).is_ok() == done,
+        Step::Remove(ue, id, stood) => store.remove(PduSession { ue, id }) == stood,
+        Step::Room(ue, id, room) => store.has_room(PduSession { ue, id }) == room,
+        Step::Find(ue, id, found) => store.find(PduSession { ue, id }).is_some() == found,
+        Step::Others(ue, id, count) => store.count_others(PduSession { ue, id }) == count,
+        Step::LowestEmergency(ue, id, lowest) => {
+            store.lowest_other_emergency(PduSession { ue, id }) == lowest
         }
         Step::Empty(empty) => store.is_empty() == empty,
     }
@@ -86,16 +86,19 @@ fn any_store<S: Store>(rt: &impl Abort, store: &mut S) {
         Step::Empty(false),
     ];
     replay(rt, store, &steps);
-    assert!(rt; has_room_below_floor(store, 6, 1));
+    let session = PduSession { ue: 6, id: 1 };
+    assert!(rt; has_room_below_floor(store, session));
     assert!(rt; put_and_find(store, context(6, 1, 7, 1)).is_some());
-    assert!(rt; remove_and_find(store, 6, 1).is_none());
+    assert!(rt; remove_and_find(store, session).is_none());
 }
 
 fn row_count_refusal(rows: &mut [ContextRow]) -> u8 {
-    match FlatStore::new(rows) {
-        Ok(_) => 0,
-        Err(refusal) => refusal.number(),
-    }
+    FlatStore::new(rows).err().map_or(0, u8::from)
+}
+
+#[test]
+fn no_room_refusal(rt: HostRuntime) {
+    assert_eq!(rt; u8::from(Refusal::from(NoRoom)), 14);
 }
 
 #[test]
@@ -104,6 +107,10 @@ fn flat_rows(rt: HostRuntime) {
     assert_eq!(rt; row_count_refusal(&mut [ContextRow::free(); 16]), 0);
     assert_eq!(rt; row_count_refusal(&mut [ContextRow::free(); 256]), 0);
     assert_eq!(rt; row_count_refusal(&mut [ContextRow::free(); 257]), 16);
+    assert!(rt; FlatStore::check_rows(15).is_err());
+    assert!(rt; FlatStore::check_rows(16).is_ok());
+    assert!(rt; FlatStore::check_rows(256).is_ok());
+    assert!(rt; FlatStore::check_rows(257).is_err());
 }
 
 #[test]
@@ -126,7 +133,7 @@ fn full_flat_store(rt: HostRuntime) -> Result<(), Fail> {
         return Ok(());
     };
     for ue in 1..17 {
-        assert!(rt; store.put(context(ue, 1, 7, 1)));
+        assert!(rt; store.put(context(ue, 1, 7, 1)).is_ok());
     }
     let steps = [
         Step::Room(17, 1, false),
@@ -153,7 +160,7 @@ fn grid_store(rt: HostRuntime) {
 fn full_grid_store(rt: HostRuntime) {
     let mut store = GridStore::new();
     for ue in 1..33 {
-        assert!(rt; store.put(context(ue, 1, 7, 1)));
+        assert!(rt; store.put(context(ue, 1, 7, 1)).is_ok());
     }
     let steps = [
         Step::Room(33, 1, false),

@@ -1,23 +1,18 @@
-// Control lines at their edges.
+// Control lines at their edges, and the rows that they stand in.
 use codes::*;
 use control::*;
 use std::test::Fail;
+use tables::*;
 
 const SLICE: SliceCode = 0x01_FF_FF_FF;
 
 // 0 where the call was carried out, else the refusal's number.
 fn number_of(res: Result<(), Refusal>) -> u8 {
-    match res {
-        Ok(()) => 0,
-        Err(refusal) => refusal.number(),
-    }
+    res.err().map_or(0, u8::from)
 }
 
 fn row_count_refusal(rows: &mut [ControlRow]) -> u8 {
-    match ControlTable::new(rows) {
-        Ok(_) => 0,
-        Err(refusal) => refusal.number(),
-    }
+    ControlTable::new(rows).err().map_or(0, u8::from)
 }
 
 #[test]
@@ -26,6 +21,9 @@ fn counts_rows(rt: HostRuntime) {
     assert_eq!(rt; row_count_refusal(&mut [ControlRow::free(); 1]), 0);
     assert_eq!(rt; row_count_refusal(&mut [ControlRow::free(); 64]), 0);
     assert_eq!(rt; row_count_refusal(&mut [ControlRow::free(); 65]), 16);
+    assert_eq!(rt; number_of(ControlTable::check_rows(0)), 16);
+    assert_eq!(rt; number_of(ControlTable::check_rows(64)), 0);
+    assert_eq!(rt; number_of(ControlTable::check_rows(65)), 16);
 }
 
 #[test]
@@ -46,14 +44,45 @@ fn sets_and_clears_lines(rt: HostRuntime) -> Result<(), Fail> {
         (3, SLICE, 8, 0x25, 0),
     ];
     for (kind, slice, dnn, back_off, refusal) in lines {
-        assert_eq!(rt; number_of(table.set(kind, slice, dnn, back_off)), refusal);
+        let numbers = ControlNumbers { kind, slice, dnn };
+        assert_eq!(rt; number_of(table.set(numbers, back_off)), refusal);
     }
     assert_eq!(rt; table.back_off(ControlKey::Dnn(1)), Some(0x22));
     assert_eq!(rt; table.back_off(ControlKey::Slice(SLICE)), Some(0x25));
     assert_eq!(rt; table.back_off(ControlKey::SliceAndDnn(SLICE, 1)), None);
     for (kind, refusal) in [(0, 19), (4, 19), (2, 19), (1, 0), (1, 19)] {
-        assert_eq!(rt; number_of(table.clear(kind, SLICE, 1)), refusal);
+        let numbers = ControlNumbers {
+            kind,
+            slice: SLICE,
+            dnn: 1,
+        };
+        assert_eq!(rt; number_of(table.clear(numbers)), refusal);
     }
     assert_eq!(rt; table.back_off(ControlKey::Dnn(1)), None);
     Ok(())
+}
+
+#[test]
+fn finds_places_for_lines(rt: HostRuntime) -> Result<(), Fail> {
+    let mut rows = [ControlRow::free(); 2];
+    let numbers = ControlNumbers {
+        kind: 1,
+        slice: SLICE,
+        dnn: 1,
+    };
+    assert_eq!(rt; find_target(&rows, &ControlKey::Dnn(1)), Some(0));
+    let Ok(mut table) = ControlTable::new(&mut rows) else {
+        assert!(rt; false);
+        return Ok(());
+    };
+    assert_eq!(rt; number_of(table.set(numbers, 0x20)), 0);
+    assert_eq!(rt; find_target(&rows, &ControlKey::Dnn(1)), Some(0));
+    assert_eq!(rt; find_target(&rows, &ControlKey::Dnn(2)), Some(1));
+    assert_eq!(rt; find_target(&rows[..1], &ControlKey::Dnn(2)), None);
+    Ok(())
+}
+
+#[test]
+fn has_no_place_without_rows(rt: HostRuntime) {
+    assert_eq!(rt; Table::new(&mut []).set(ControlRow::free()), Err(TableFull));
 }

@@ -10,6 +10,8 @@ mod dnn_names;
 #[cfg(test)]
 mod messages;
 #[cfg(test)]
+mod played_lines;
+#[cfg(test)]
 mod printed_values;
 #[cfg(test)]
 mod scenario_words;

@@ -8,7 +8,7 @@ use std::test::Fail;
 fn refusal_of(octets: &[u8]) -> u8 {
     match read_uplink(octets) {
         Ok(_) => 0,
-        Err(refusal) => refusal.number(),
+        Err(refusal) => u8::from(refusal),
     }
 }
 

@@ -14,11 +14,16 @@ fn line(dnn: DnnNumber, smf: SmfId) -> ServiceLine {
     }
 }
 
-// 0 where the line was added, else the refusal's number.
-fn number_of(added: Result<(), SetupError>) -> u8 {
+// The slice with a DNN.
+fn wanted(dnn: DnnNumber) -> SliceDnn {
+    SliceDnn { slice: SLICE, dnn }
+}
+
+// The refusal's number; none where the line was added.
+fn number_of(added: Result<(), SetupError>) -> Option<u8> {
     match added {
-        Err(SetupError::Refused(refusal)) => refusal.number(),
-        _ => 0,
+        Err(SetupError::Refused(refusal)) => Some(u8::from(refusal)),
+        _ => None,
     }
 }
 
@@ -29,17 +34,17 @@ fn choices<D: Directory>(
     expected: &[(DnnNumber, Option<SmfId>)],
 ) {
     for (dnn, smf) in expected {
-        assert!(rt; serving_smf(directory, SLICE, *dnn) == *smf);
+        assert!(rt; serving_smf(directory, wanted(*dnn)) == *smf);
     }
 }
 
 // Lines at the edges, and the refusal that each gets.
-const EDGES: [(DnnNumber, SmfId, u8); 5] = [
-    (0, 1, 16),
-    (65, 1, 16),
-    (1, 0, 16),
-    (1, 1, 0),
-    (64, 255, 0),
+const EDGES: [(DnnNumber, SmfId, Option<u8>); 5] = [
+    (0, 1, Some(16)),
+    (65, 1, Some(16)),
+    (1, 0, Some(16)),
+    (1, 1, None),
+    (64, 255, None),
 ];
 
 #[test]
@@ -47,7 +52,7 @@ fn list_edges(rt: HostRuntime) {
     let mut list = ListDirectory::new(rt.alloc());
     choices(&rt, &mut list, &[(1, None), (0, None)]);
     for (dnn, smf, refusal) in EDGES {
-        assert_eq!(rt; number_of(list.add(line(dnn, smf))), refusal);
+        assert!(rt; number_of(list.add(line(dnn, smf))) == refusal);
     }
     choices(
         &rt,
@@ -74,9 +79,9 @@ fn list_takes_the_first(rt: HostRuntime) -> Result<(), Fail> {
 fn list_has_64_lines(rt: HostRuntime) {
     let mut list = ListDirectory::new(rt.alloc());
     for dnn in 1..65 {
-        assert_eq!(rt; number_of(list.add(line(dnn, 200))), 0);
+        assert!(rt; number_of(list.add(line(dnn, 200))) == None);
     }
-    assert_eq!(rt; number_of(list.add(line(1, 1))), 16);
+    assert!(rt; number_of(list.add(line(1, 1))) == Some(16));
 }
 
 #[test]
@@ -84,7 +89,7 @@ fn turning_edges(rt: HostRuntime) {
     let mut turning = TurningDirectory::new(rt.alloc());
     choices(&rt, &mut turning, &[(1, None), (0, None)]);
     for (dnn, smf, refusal) in EDGES {
-        assert_eq!(rt; number_of(turning.add(line(dnn, smf))), refusal);
+        assert!(rt; number_of(turning.add(line(dnn, smf))) == refusal);
     }
     choices(
         &rt,
@@ -109,9 +114,9 @@ fn turning_goes_round(rt: HostRuntime) -> Result<(), Fail> {
         (1, Some(200)),
     ];
     choices(&rt, &mut turning, &round);
-    assert!(rt; turning.choose_two(SLICE, 1) == (Choice::Smf(255), Choice::Smf(3)));
+    assert!(rt; turning.choose_two(wanted(1)) == (Ok(255), Ok(3)));
     turning.mark(false);
-    assert!(rt; turning.choose(SLICE, 1) == Choice::Closed);
+    assert!(rt; turning.choose(wanted(1)) == Err(NoSmf::Closed));
     turning.mark(true);
     choices(&rt, &mut turning, &[(1, Some(200))]);
     Ok(())
@@ -121,10 +126,10 @@ fn turning_goes_round(rt: HostRuntime) -> Result<(), Fail> {
 fn turning_has_64_pairs(rt: HostRuntime) {
     let mut turning = TurningDirectory::new(rt.alloc());
     for smf in 1..65 {
-        assert_eq!(rt; number_of(turning.add(line(1, smf))), 0);
+        assert!(rt; number_of(turning.add(line(1, smf))) == None);
     }
     // a 65th pair is refused, another DNN of a pair that it has is not
-    assert_eq!(rt; number_of(turning.add(line(1, 65))), 16);
-    assert_eq!(rt; number_of(turning.add(line(2, 64))), 0);
+    assert!(rt; number_of(turning.add(line(1, 65))) == Some(16));
+    assert!(rt; number_of(turning.add(line(2, 64))) == None);
     choices(&rt, &mut turning, &[(2, Some(64)), (1, Some(1))]);
 }

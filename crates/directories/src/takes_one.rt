@@ -1,0 +1,16 @@
+// A directory that takes one SMF alone for a slice and a DNN at its next choice, and says which.
+ghost use Rattle.std.specs.Prelude.{ℕ, Decides};
+ghost use Rattle.directories.specs.Meanings.{Sole};
+
+use crate::directory::Directory;
+
+pub trait TakesOne: Directory {
+    // When an SMF ID is the one for a slice and a DNN number.
+    ghost means: { Self → ℕ → ℕ → ℕ → Type 0 };
+
+    // It is taken exactly then.
+    ghost meaning: { (d : Self) (s n m : ℕ) → Decides (Self.takes d s n m) (means d s n m) };
+
+    // No other is.
+    ghost sole: { (d : Self) → Sole (Self.takes d) };
+}

@@ -1,0 +1,10 @@
+// What all programs that play a scenario do alike: the words of a line, the command `read` and its reply, and the loop over the lines.
+#![tactic(auto)]
+
+mod line;
+mod play;
+mod read;
+
+pub use line::{line_words, without_feed};
+pub use play::{LinePlayer, play_lines};
+pub use read::{ReadReply, read_operand};

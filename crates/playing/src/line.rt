@@ -1,0 +1,24 @@
+// A line of a scenario.
+ghost use Rattle.std.specs.Prelude.{◌≡◌, IfOk};
+ghost use Rattle.playing.specs.Lines.{Unended, WordsOf};
+
+use scenario::{begins_with, split_words};
+use std::alloc::{AllocError, Global};
+
+// A line without the line feed that ends it, if one does.
+pub fn without_feed(line: &[u8]) -> &[u8]
+    ensures { Unended line.now result.now }
+{
+    line.strip_suffix(b"\n").unwrap_or(line)
+}
+
+// The words of a line that asks for something. A comment doesn't, nor does a line with no word.
+pub fn line_words<'a>(heap: Global, line: &'a [u8]) -> Result<Option<Vec<&'a [u8]>>, AllocError>
+    ensures { IfOk result (λ o. WordsOf line.now o) }
+{
+    let words = split_words(heap, line)?;
+    if begins_with(line, b'#') || words.is_empty() {
+        return Ok(None);
+    }
+    Ok(Some(words))
+}

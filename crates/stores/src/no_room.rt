@@ -1,0 +1,17 @@
+// A store's answer where it has no room for a context.
+ghost use Rattle.std.specs.Prelude.{◌≡◌};
+ghost use Rattle.codes.specs.declared.refusal.Refusal.{Refusal};
+ghost use Rattle.codes.specs.declared.refusal.Refusal.TheVariants as refusal;
+
+use codes::Refusal;
+
+#[derive(Clone, Copy, Debug, PartialEq, Eq)]
+pub struct NoRoom;
+
+impl From<NoRoom> for Refusal {
+    ghost from_gives = { λ _ r. r ≡ refusal.NoRoom };
+
+    fn from(_no_room: NoRoom) -> Refusal {
+        Refusal::NoRoom
+    }
+}

@@ -1,0 +1,20 @@
+// A PDU session of a UE: the numbers that a context is found by.
+ghost use Rattle.std.specs.Prelude.{◌≡◌};
+ghost use Rattle.stores.specs.Contexts.{pair_fits};
+
+use codes::{SessionId, UeNumber};
+
+#[derive(Clone, Copy, Debug, PartialEq, Eq)]
+pub struct PduSession {
+    pub ue: UeNumber,
+    pub id: SessionId,
+}
+
+impl PduSession {
+    // Whether there can be a context of it.
+    pub fn is_in_bounds(&self) -> bool
+        ensures { result ≡ pair_fits self.now.ue self.now.id }
+    {
+        self.ue > 0 && (1..=15).contains(&self.id)
+    }
+}
