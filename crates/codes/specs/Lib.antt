@@ -1,3 +1,4 @@
 pub mod Refusals
 pub mod Causes
 pub mod RequestTypes
+pub mod Sessions

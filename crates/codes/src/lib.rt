@@ -5,6 +5,7 @@ mod cause;
 mod ids;
 mod refusal;
 mod request_type;
+mod session;
 mod setup_error;
 mod slice_dnn;
 
@@ -12,5 +13,6 @@ pub use cause::Cause;
 pub use ids::{DnnNumber, SessionId, SliceCode, SmfId, UeNumber};
 pub use refusal::Refusal;
 pub use request_type::RequestType;
+pub use session::is_session;
 pub use setup_error::SetupError;
 pub use slice_dnn::SliceDnn;

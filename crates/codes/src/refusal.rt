@@ -5,45 +5,45 @@ ghost use Rattle.codes.specs.Refusals.{refusal_number};
 #[derive(Clone, Copy, Debug, PartialEq, Eq)]
 pub enum Refusal {
     /// The UE record, or one of its lines, is out of bounds.
-    RecordBounds,
+    RecordBounds = 1,
     /// The pool is not 32,768 octets long.
-    PoolLength,
+    PoolLength = 2,
     /// The message is under 7 octets long, or its payload or an element runs past its end.
-    Overrun,
+    Overrun = 3,
     /// The first three octets are not those of an UL NAS TRANSPORT message.
-    Header,
+    Header = 4,
     /// The payload type is not one that is taken.
-    PayloadType,
+    PayloadType = 5,
     /// The payload is empty or longer than 2,048 octets.
-    PayloadLength,
+    PayloadLength = 6,
     /// An S-NSSAI or a DNN has a length that it cannot have.
-    ElementLength,
+    ElementLength = 7,
     /// An element's first octet is 00 to 0F.
-    ElementKind,
+    ElementKind = 8,
     /// The session is absent, a session is not 1 to 15, or the old one is the session itself.
-    SessionBounds,
+    SessionBounds = 9,
     /// The request type is 6 or 7.
-    UnknownRequest,
+    UnknownRequest = 10,
     /// The output is shorter than the payload and 13 octets.
-    OutputLength,
+    OutputLength = 11,
     /// The UE and session have a payload in flight.
-    PairInFlight,
+    PairInFlight = 12,
     /// As many payloads are in flight as there are slots.
-    FlightsFull,
+    FlightsFull = 13,
     /// The store has no room for the UE and session.
-    NoRoom,
+    NoRoom = 14,
     /// There is no ticket number left.
-    NumbersSpent,
+    NumbersSpent = 15,
     /// What is to be opened or made is out of bounds.
-    Opening,
+    Opening = 16,
     /// The ticket is not open here, or the number is not parked.
-    UnknownTicket,
+    UnknownTicket = 17,
     /// There is no context to release.
-    NoContext,
+    NoContext = 18,
     /// The control kind is not 1 to 3, or there is no such line to clear.
-    ControlKind,
+    ControlKind = 19,
     /// The control table is full, and the key is new.
-    ControlFull,
+    ControlFull = 20,
 }
 
 // The number that the host gets.
@@ -51,27 +51,6 @@ impl From<Refusal> for u8 {
     ghost from_gives = { λ e n. n ≡ refusal_number e };
 
     fn from(refusal: Refusal) -> u8 {
-        match refusal {
-            Refusal::RecordBounds => 1,
-            Refusal::PoolLength => 2,
-            Refusal::Overrun => 3,
-            Refusal::Header => 4,
-            Refusal::PayloadType => 5,
-            Refusal::PayloadLength => 6,
-            Refusal::ElementLength => 7,
-            Refusal::ElementKind => 8,
-            Refusal::SessionBounds => 9,
-            Refusal::UnknownRequest => 10,
-            Refusal::OutputLength => 11,
-            Refusal::PairInFlight => 12,
-            Refusal::FlightsFull => 13,
-            Refusal::NoRoom => 14,
-            Refusal::NumbersSpent => 15,
-            Refusal::Opening => 16,
-            Refusal::UnknownTicket => 17,
-            Refusal::NoContext => 18,
-            Refusal::ControlKind => 19,
-            Refusal::ControlFull => 20,
-        }
+        refusal as u8
     }
 }

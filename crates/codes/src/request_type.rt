@@ -7,28 +7,22 @@ use crate::refusal::Refusal;
 #[derive(Clone, Copy, Debug, PartialEq, Eq)]
 pub enum RequestType {
     /// A new PDU session.
-    Initial,
+    Initial = 1,
     /// A PDU session that exists elsewhere.
-    Existing,
+    Existing = 2,
     /// A new emergency PDU session.
-    InitialEmergency,
+    InitialEmergency = 3,
     /// An emergency PDU session that exists elsewhere.
-    ExistingEmergency,
+    ExistingEmergency = 4,
     /// A change of a PDU session.
-    Modification,
+    Modification = 5,
 }
 
 impl From<RequestType> for u8 {
     ghost from_gives = { λ t n. n ≡ request_number t };
 
     fn from(request_type: RequestType) -> u8 {
-        match request_type {
-            RequestType::Initial => 1,
-            RequestType::Existing => 2,
-            RequestType::InitialEmergency => 3,
-            RequestType::ExistingEmergency => 4,
-            RequestType::Modification => 5,
-        }
+        request_type as u8
     }
 }
 

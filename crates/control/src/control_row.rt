@@ -5,7 +5,7 @@ ghost use Rattle.control.specs.Octets.{Holds, octet_of};
 use crate::control_key::ControlKey;
 use crate::control_line::ControlLine;
 
-// No one type with the flat store's row, since what is held keeps another invariant there.
+// One type with the flat store's row would be no plainer: its context would need a type around it for its ghost field.
 #[derive(Clone, Copy)]
 pub struct ControlRow {
     pub(crate) held: Option<ControlLine>,

@@ -17,7 +17,7 @@ pub struct ControlTable<'a> {
 }
 
 impl<'a> ControlTable<'a> {
-    // Whether a table can have so many rows. The bounds are its own, and `contains` is what it shares with other makes.
+    // Whether a table can have so many rows. One function over both bounds would be no shorter, as the test is one line.
     pub fn check_rows(count: usize) -> Result<(), Refusal>
         ensures { result ≡ (if rows_fit count then Ok tt else Err Opening) }
     {

@@ -1,4 +1,4 @@
-// How much a directory holds. A function and no type of its own: such a type would only hand a list's methods on, and the directories need none but this.
+// How much a directory holds. A function and no type of its own, which would only hand on a list's methods.
 ghost use Rattle.std.specs.Prelude.{MatchResult};
 ghost use Rattle.directories.specs.Additions.{Pushed, Unpushed};
 

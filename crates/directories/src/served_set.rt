@@ -3,7 +3,7 @@ ghost use Rattle.std.specs.Prelude.{◌≡◌, true};
 ghost use Rattle.directories.specs.Lines.{numbered};
 ghost use Rattle.directories.specs.Sets.{set_for, is_pair, with_dnn, set_of};
 
-use crate::service_line::ServiceLine;
+use crate::service_line::{ServiceLine, is_numbered};
 use codes::{DnnNumber, SliceCode, SliceDnn, SmfId};
 
 #[derive(Clone, Copy)]
@@ -49,8 +49,7 @@ impl ServedSet {
         ensures { result ≡ set_for self.now wanted.slice wanted.dnn }
     {
         self.slice == wanted.slice
-            && wanted.dnn > 0
-            && wanted.dnn <= 64
+            && is_numbered(wanted.dnn)
             && self.numbers[usize::from(wanted.dnn - 1)]
     }
 }

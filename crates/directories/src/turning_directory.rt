@@ -21,7 +21,7 @@ use std::alloc::Global;
 pub struct TurningDirectory {
     // One for each slice and SMF. A list and no map by the two: a choice goes over all, and `add` alone looks for one.
     sets: Vec<ServedSet>,
-    // The ID that was chosen last, above which the next is looked for; 0 at first.
+    // The ID that was chosen last, above which the next is looked for; 0 at first, so that an `Option` would be read as 0.
     last: SmfId,
     is_open: bool,
     ghost few: { vec_len sets ≤ 64 },

@@ -6,7 +6,7 @@ ghost use Rattle.flat.specs.Held.{held_other, held_emergency};
 use codes::SessionId;
 use stores::{Context, NoRoom, PduSession};
 
-// No one type with a control table's row, since what is held keeps another invariant there.
+// One type with a control table's row would be no plainer: the context would need a type around it for the ghost field.
 #[derive(Clone, Copy)]
 pub struct ContextRow {
     pub(crate) held: Option<Context>,

@@ -19,7 +19,7 @@ pub struct FlatStore<'a> {
     ghost enough: { 16 ≤ length table.rows.now },
 }
 
-// The lowest of some sessions. It stands alone so that its contract says which one is picked.
+// The lowest of some sessions. This, `remove_row` and `row` stand alone so that a wrong one is refused by its own contract.
 fn lowest<I: Iterator<Item = SessionId> + Drop>(sessions: I) -> Option<SessionId>
     requires can { I.can_next sessions }
     requires ends { IsFinite (I.remaining sessions) }
@@ -36,7 +36,7 @@ fn remove_row(table: &mut Table<'_, ContextRow>, session: PduSession) -> bool
 }
 
 impl<'a> FlatStore<'a> {
-    // Whether a store can have so many rows. The bounds are its own, and `contains` is what it shares with other makes.
+    // Whether a store can have so many rows. One function over both bounds would be no shorter, as the test is one line.
     pub fn check_rows(count: usize) -> Result<(), Refusal>
         ensures { result ≡ (if rows_fit count then Ok tt else Err Opening) }
     {

@@ -6,7 +6,7 @@ ghost use Rattle.stores.specs.Contexts.{pair_fits, sessions};
 ghost use Rattle.grid.specs.Grids.{place_of, context_at, other_in, others_in, emergency_in, is_free, ue_of, written};
 
 use crate::place::Place;
-use codes::{SessionId, UeNumber};
+use codes::{SessionId, UeNumber, is_session};
 use stores::Context;
 use tables::Row;
 
@@ -30,7 +30,7 @@ impl UeRow {
     pub(crate) fn context(&self, session: SessionId) -> Option<Context>
         ensures { result ≡ context_at self.now session }
     {
-        if !(1..=15).contains(&session) {
+        if !is_session(session) {
             return None;
         }
         self.places[usize::from(session) - 1].map(|place| place.context(self.ue, session))
@@ -64,7 +64,7 @@ impl UeRow {
         (1..16).find(|&other| self.has_other_emergency(session, other))
     }
 
-    // Makes it the UE's row, with this at the session.
+    // Makes it the UE's row, with this at the session. The size is a clause, since as a ghost field `written` would have to prove it.
     fn write(&mut self, ue: UeNumber, session: SessionId, place: Option<Place>)
         requires session_nonzero { 0 < session }
         requires session_bound { session < 16 }

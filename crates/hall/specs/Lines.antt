@@ -1,12 +1,12 @@
 -- What a line of a scenario asks for, and what it prints.
-use Rattle.std.specs.Prelude.{◌≡◌, ℕ, ◌<◌, cond, List, [], ◌∷◌, ◌++◌, Some, None, codes, decimal, Option}
+use Rattle.std.specs.Prelude.{◌≡◌, ℕ, ◌<◌, cond, List, [], ◌∷◌, ◌++◌, Some, None, codes, Option}
 use Rattle.std.specs.Option.{option_map}
 use Rattle.std.specs.List.{AllByRecursion}
 use Rattle.std.specs.Str.{bytes_eq}
 use Rattle.nas.specs.Uplinks as uplinks
 use Rattle.printing.specs.Octets.{octets_text}
 use Rattle.scenario.specs.Words.{words}
-use Rattle.playing.specs.Lines.{operand_in, read_line, silent}
+use Rattle.playing.specs.Lines.{operand_in, error_line, read_line, silent}
 
 -- ---- what a line asks for
 
@@ -24,7 +24,7 @@ command_words (verb ∷ rest) = cond (bytes_eq verb (codes "read")) (read_words 
 -- ---- what it prints
 
 abbrev pub answer_line : ℕ → Option Command → List ℕ
-answer_line number None = codes "error " ++ decimal number
+answer_line number None = error_line number
 answer_line number (Some (read octets)) = read_line (uplinks.read octets)
 
 -- what the line of this number prints, if it prints anything

@@ -8,6 +8,7 @@ ghost use Rattle.hall.specs.Lines.{command_words};
 use playing::read_operand;
 use std::alloc::{AllocError, Global};
 
+// This program knows one command, so there is one case.
 #[derive(Drop)]
 pub(crate) enum Command {
     /// Reads one uplink message.

@@ -1,7 +1,6 @@
 -- How a change ended.
 use Rattle.std.specs.Prelude.{Some, None, Ok, Err, Option, Result}
 use Rattle.codes.specs.declared.refusal.Refusal.{Refusal}
-use Rattle.codes.specs.declared.setup_error.SetupError.{SetupError}
 use Rattle.codes.specs.declared.setup_error.SetupError.TheVariants as setup
 use Rattle.hall_setup.specs.declared.not_done.NotDone.{NotDone}
 use Rattle.hall_setup.specs.declared.not_done.NotDone.TheVariants as ends
@@ -15,11 +14,6 @@ pub data Outcome : Type 0 where
 -- the outcome, where there was memory
 abbrev pub outcome_of : Result (Unit {0}) NotDone → Option Outcome
 outcome_of (Ok _) = Some Accepted
-outcome_of (Err (ends.Refused r)) = Some (Refused r)
+outcome_of (Err (ends.Setup (setup.Refused r))) = Some (Refused r)
+outcome_of (Err (ends.Setup setup.OutOfMemory)) = None
 outcome_of (Err ends.Misplaced) = Some Misplaced
-outcome_of (Err ends.OutOfMemory) = None
-
--- why something was not set up, as of all changes
-abbrev pub not_made : SetupError → NotDone
-not_made (setup.Refused r) = ends.Refused r
-not_made setup.OutOfMemory = ends.OutOfMemory

@@ -4,13 +4,13 @@ use Rattle.std.specs.List.{AllByRecursion}
 use Rattle.nas.specs.Uplinks as uplinks
 use Rattle.printing.specs.Octets.{octets_text}
 use Rattle.scenario.specs.Words.{words}
-use Rattle.playing.specs.Lines.{read_line, silent}
+use Rattle.playing.specs.Lines.{error_line, read_line, silent}
 use Rattle.control.specs.declared.control_row.ControlRow.{ControlRow}
 use Rattle.hall_setup.specs.declared.directory.HallDirectory.{HallDirectory}
 use Rattle.hall_setup.specs.Ends.{Outcome}
 use Rattle.hall_setup.specs.Commands.{Command, read, change, command_words}
 use Rattle.hall_setup.specs.Effects.{OutcomeFor}
-use Rattle.hall_setup.specs.Outcomes.{error_line, outcome_line}
+use Rattle.hall_setup.specs.Outcomes.{outcome_line}
 
 -- What a command of this line number prints, by the directory and the control rows that stand before it: what is read,
 -- or the line of the outcome.

@@ -6,6 +6,7 @@ use Rattle.hall_setup.specs.Ends.{Outcome, Accepted, Refused, Misplaced}
 use Rattle.hall_setup.specs.declared.verb.Verb.{Verb}
 use Rattle.hall_setup.specs.declared.verb.Verb.TheVariants as verbs
 use Rattle.hall_setup.specs.Changes.{Change, book, store, directory, serve, mark, control, set, clear}
+use Rattle.playing.specs.Lines.{error_line}
 use Rattle.hall_setup.specs.Kinds.{kind_word, state_word}
 use Rattle.hall_setup.specs.Verbs.{verb_word}
 
@@ -32,10 +33,6 @@ accepted_line (clear line) = codes "clear"
 
 abbrev pub refused_line : Verb → ℕ → List ℕ
 refused_line verb n = verb_word verb ++ (codes " refused " ++ decimal n)
-
--- of the line of this number
-abbrev pub error_line : ℕ → List ℕ
-error_line number = codes "error " ++ decimal number
 
 abbrev pub outcome_line : ℕ → Change → Outcome → List ℕ
 outcome_line number c Accepted = accepted_line c

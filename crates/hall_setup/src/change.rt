@@ -9,7 +9,7 @@ use crate::verb::Verb;
 use control::ControlNumbers;
 use directories::ServiceLine;
 
-// Both are makes of a store, so this is no `Option` of rows.
+// Both are kinds of stores, so this is no `Option` of rows.
 #[derive(Clone, Copy)]
 pub(crate) enum StoreKind {
     /// So many rows.

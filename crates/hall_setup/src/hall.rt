@@ -24,7 +24,7 @@ pub(crate) struct Hall {
     book: Option<Book>,
     store: Option<StoreKind>,
     directory: Option<HallDirectory>,
-    // The control table borrows its rows, so it stands with the lines that are played.
+    // How many rows a new control table is to have. The table borrows its rows, so it stands in the player.
     wanted_rows: Option<usize>,
 }
 
@@ -32,11 +32,7 @@ pub(crate) struct Hall {
 fn lend<'a>(heap: Global, names: &'a [Vec<u8>]) -> Result<Vec<&'a [u8]>, AllocError>
     ensures { IfOk result (λ v. lent_names v.items ≡ map vec_items names.now) }
 {
-    let mut lent = Vec::new(heap);
-    for name in names {
-        lent.push(name.as_slice())?;
-    }
-    Ok(lent)
+    names.iter().map(|name| name.as_slice()).collect(heap)
 }
 
 impl Hall {

@@ -24,13 +24,13 @@ fn play(rt: &HostRuntime) -> anyhow::Result<()> {
     let mut input = BufReader::new(rt.alloc(), rt.stdin())?;
     let mut hall = Hall::new();
     let mut number = 1;
-    // Each turn plays a line at least, and there are no more than these.
+    // A loop has to end, so the tables are counted: there are no more than lines.
     for _ in 1..u64::MAX {
         let Some(rows) = hall.take_wanted_rows() else {
             break;
         };
         let mut space = [ControlRow::free(); 64];
-        // Only so many rows are wanted as a table was tried with, so that this one is made.
+        // Only so many rows are wanted as `ControlTable::check_rows` let through, so that this table is made.
         let Ok(table) = ControlTable::new(&mut space[..rows.min(64)]) else {
             break;
         };
@@ -39,7 +39,10 @@ fn play(rt: &HostRuntime) -> anyhow::Result<()> {
             hall: &mut hall,
             table,
         };
-        number = play_lines(&mut player, rt.alloc(), &mut input, number)?;
+        let Some(next) = play_lines(&mut player, rt.alloc(), &mut input, number)? else {
+            break;
+        };
+        number = next;
     }
     Ok(())
 }

@@ -3,16 +3,17 @@ ghost use Rattle.std.specs.Prelude.{◌≡◌, IfOk, string_bytes};
 ghost use Rattle.codes.specs.Refusals.{refusal_number};
 ghost use Rattle.hall_setup.specs.Asked.{wanted};
 ghost use Rattle.hall_setup.specs.Ends.{outcome_of};
-ghost use Rattle.hall_setup.specs.Outcomes.{accepted_line, error_line, refused_line, Tells};
+ghost use Rattle.hall_setup.specs.Outcomes.{accepted_line, refused_line, Tells};
 
 use crate::change::{Change, StoreKind};
 use crate::not_done::NotDone;
 use crate::verb::Verb;
 use crate::word::Word;
-use codes::Refusal;
+use codes::{Refusal, SetupError};
+use playing::error_line;
 use std::alloc::{AllocError, Global};
 
-// What an accepted change prints.
+// What an accepted change prints. Each line stands whole, so that it is read as it is printed.
 fn accepted_line(heap: Global, change: &Change) -> Result<String, AllocError>
     ensures { IfOk result (λ s. string_bytes s ≡ accepted_line (wanted change.now)) }
 {
@@ -40,13 +41,6 @@ fn refused_line(heap: Global, verb: Verb, refusal: Refusal) -> Result<String, Al
     format!(in heap; "{verb} refused {number}")
 }
 
-// What the line of this number prints if it is no command, or comes too early.
-pub(crate) fn error_line(heap: Global, number: u64) -> Result<String, AllocError>
-    ensures { IfOk result (λ s. string_bytes s ≡ error_line number) }
-{
-    format!(in heap; "error {number}")
-}
-
 // What the line of this number prints that asked for `change`.
 pub(crate) fn outcome_line(
     heap: Global,
@@ -58,8 +52,12 @@ pub(crate) fn outcome_line(
 {
     match done {
         Ok(()) => accepted_line(heap, change),
-        Err(NotDone::Refused(refusal)) => refused_line(heap, change.verb(), refusal),
+        Err(NotDone::Setup(SetupError::Refused(refusal))) => refused_line(
+            heap,
+            change.verb(),
+            refusal,
+        ),
+        Err(NotDone::Setup(SetupError::OutOfMemory)) => Err(AllocError),
         Err(NotDone::Misplaced) => error_line(heap, number),
-        Err(NotDone::OutOfMemory) => Err(AllocError),
     }
 }

@@ -33,6 +33,7 @@ fn parse_names(heap: Global, words: &[&[u8]]) -> Result<Option<Vec<Vec<u8>>>, Al
     ensures { IfOk result (λ o. option_map (λ v. map vec_items v.items) o ≡ names_in (map text words.now)) }
 {
     let mut names = Vec::new(heap);
+    // A `for`: the library says nothing yet of what `collect` into an `Option` gives.
     for word in words {
         let Some(name) = parse_octets(heap, *word)? else {
             return Ok(None);

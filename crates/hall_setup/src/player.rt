@@ -1,15 +1,14 @@
 // What plays a scenario: it changes the hall as each line asks, and prints what the line answers.
-ghost use Rattle.std.specs.Prelude.{◌≡◌, IfOk, string_bytes};
+ghost use Rattle.std.specs.Prelude.{IfOk, string_bytes};
 ghost use Rattle.std.specs.Option.{option_map};
 ghost use Rattle.hall_setup.specs.Lines.{Printed, PrintedIf, Answers};
 ghost use Rattle.hall_setup.specs.Readings.{asked};
 
 use crate::command::{Command, parse_command};
 use crate::hall::Hall;
-use crate::outcome::{error_line, outcome_line};
+use crate::outcome::outcome_line;
 use control::ControlTable;
-use nas::read_uplink;
-use playing::{LinePlayer, ReadReply, line_words};
+use playing::{LinePlayer, error_line, line_words, read_line};
 use std::alloc::AllocError;
 use std::ops::ControlFlow;
 
@@ -27,10 +26,7 @@ impl Player<'_> {
     {
         let heap = self.rt.alloc();
         match command {
-            Command::Read(octets) => {
-                let reply = ReadReply(read_uplink(octets.as_slice()));
-                format!(in heap; "{reply}")
-            }
+            Command::Read(octets) => read_line(heap, octets.as_slice()),
             Command::Change(change) => {
                 let done = self.hall.apply(heap, &mut self.table, change);
                 outcome_line(heap, number, change, done)

@@ -1,6 +1,6 @@
 // The book of DNN names, which numbers them from 1.
-ghost use Rattle.std.specs.Prelude.{◌≡◌, ◌<◌, ◌≤◌, length, IfOk, vec_len, Decides, MatchResult};
-ghost use Rattle.names.specs.Names.{Numbers, Sized, Apart, Follows, FollowsEarlier, GoodNames};
+ghost use Rattle.std.specs.Prelude.{◌≡◌, ◌<◌, length, IfOk, Decides, MatchResult};
+ghost use Rattle.names.specs.Names.{Numbers, Follows, FollowsEarlier, GoodNames};
 ghost use Rattle.names.specs.OwnNames.{own_names, lent_names, Made, Unmade};
 
 use crate::name::{Name, place_in};

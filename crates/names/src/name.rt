@@ -1,5 +1,5 @@
 // The octets of a DNN as a name.
-ghost use Rattle.std.specs.Prelude.{◌≡◌, ℕ, List};
+ghost use Rattle.std.specs.Prelude.{◌≡◌};
 ghost use Rattle.names.specs.Names.{same_octet, Same, Numbers, names_of, numbered};
 
 use std::convert::AsSlice;
@@ -11,7 +11,7 @@ fn same_octet(a: u8, b: u8) -> bool
     a == b
 }
 
-// Whether two names are the same. Everything that compares names goes by this.
+// Whether two names are the same. Everything that compares names goes by this, and by no `==`, so that the rule for octets stands in one place.
 pub fn same_name(a: &[u8], b: &[u8]) -> bool
     ensures { Same a.now b.now result }
 {

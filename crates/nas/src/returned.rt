@@ -3,8 +3,9 @@ ghost use Rattle.std.specs.Prelude.{◌≡◌, ◌+◌, ◌≤◌, length};
 ghost use Rattle.nas.specs.Returns.{back_off_element, overwritten, Returns};
 ghost use Rattle.nas.specs.Views.{numbered};
 
-use crate::uplink::{MAX_PAYLOAD, in_range};
-use codes::{Cause, Refusal, SessionId};
+use crate::element::SESSION_ID;
+use crate::uplink::MAX_PAYLOAD;
+use codes::{Cause, Refusal, SessionId, is_session};
 
 // The octets in front of the payload's length: a DL NAS TRANSPORT message of N1 SM information.
 pub const RETURN_HEADER: [u8; 4] = [0x7E, 0x00, 0x68, 0x01];
@@ -12,7 +13,7 @@ pub const RETURN_HEADER: [u8; 4] = [0x7E, 0x00, 0x68, 0x01];
 // How many octets a return takes besides its payload, with the longest cause.
 pub const RETURN_OVERHEAD: usize = 13;
 
-// What is written from the front on, up to `end`.
+// What is written from the front on, up to `end`. The octets are lent, so this is no `Vec`.
 #[derive(Drop)]
 struct Output<'a> {
     octets: &'a mut [u8],
@@ -31,7 +32,8 @@ impl<'a> Output<'a> {
         self.end = end;
     }
 
-    // The element that says how long to back off, where the cause has an octet for it.
+    // The element that says how long to back off, where the cause has an octet for it. It stands alone, since behind an `if let` in
+    // `write_return` the check loses sight of the octets.
     fn put_back_off(&mut self, octet: Option<u8>)
         requires { self.old.end + length (back_off_element octet) ≤ length self.old.octets.now }
         ensures end { self.new.end ≡ self.old.end + length (back_off_element octet) }
@@ -57,7 +59,7 @@ pub fn write_return(
     if !(1..=MAX_PAYLOAD).contains(&length) {
         return Err(Refusal::PayloadLength);
     }
-    if !in_range(session) {
+    if !is_session(session) {
         return Err(Refusal::SessionBounds);
     }
     if output.len() < length + RETURN_OVERHEAD {
@@ -70,7 +72,7 @@ pub fn write_return(
     written.put(&RETURN_HEADER);
     written.put(&(length as u16).to_be_bytes());
     written.put(payload);
-    written.put(&[0x12, session, 0x58, u8::from(cause)]);
+    written.put(&[SESSION_ID, session, 0x58, u8::from(cause)]);
     written.put_back_off(cause.back_off());
     Ok(written.end)
 }

@@ -1,12 +1,11 @@
 // The UL NAS TRANSPORT message.
-ghost use Rattle.std.specs.Prelude.{◌≡◌, Ok, Err, MatchResult};
-ghost use Rattle.codes.specs.Refusals.{refusal_number};
-ghost use Rattle.nas.specs.Uplinks.{header, in_range, judged, noted, nothing, walk, slice_in};
+ghost use Rattle.std.specs.Prelude.{◌≡◌};
+ghost use Rattle.nas.specs.Uplinks.{header, judged, noted, nothing, walk, slice_in};
 ghost use Rattle.nas.specs.Messages.{Reads};
 ghost use Rattle.nas.specs.Views.{numbered, parts, seen, answer};
 
 use crate::element::{DNN, Element, OLD_SESSION_ID, Reader, S_NSSAI, SESSION_ID};
-use codes::{Refusal, RequestType, SessionId, SliceCode};
+use codes::{Refusal, RequestType, SessionId, SliceCode, is_session};
 
 // The longest payload.
 pub const MAX_PAYLOAD: usize = 2048;
@@ -20,13 +19,6 @@ pub struct Uplink<'a> {
     pub request_type: Option<RequestType>,
     pub slice: Option<SliceCode>,
     pub dnn: Option<&'a [u8]>,
-}
-
-// Whether a session's number is one that a session can have.
-pub(crate) fn in_range(session: SessionId) -> bool
-    ensures { result ≡ in_range session }
-{
-    (1..=15).contains(&session)
 }
 
 // The length of the payload.
@@ -132,11 +124,11 @@ impl<'a> Parts<'a> {
     {
         let session = self
             .session
-            .filter(|session| in_range(*session))
+            .filter(|session| is_session(*session))
             .ok_or(Refusal::SessionBounds)?;
         if self
             .old_session
-            .is_some_and(|old| !in_range(old) || old == session)
+            .is_some_and(|old| !is_session(old) || old == session)
         {
             return Err(Refusal::SessionBounds);
         }

@@ -22,6 +22,10 @@ abbrev pub WordsOf : List ℕ → Option (Vec (Bor (List ℕ)) Global) → Type 
 WordsOf line o =
     MatchOption o (silent line ≡ true) (λ v. (silent line ≡ false) × (map text (vec_items v) ≡ words line))
 
+-- of the line of this number, which is no command
+abbrev pub error_line : ℕ → List ℕ
+error_line number = codes "error " ++ decimal number
+
 -- ---- the command `read`
 
 -- the octets of the one word behind `read`

@@ -5,6 +5,6 @@ mod line;
 mod play;
 mod read;
 
-pub use line::{line_words, without_feed};
+pub use line::{error_line, line_words, without_feed};
 pub use play::{LinePlayer, play_lines};
-pub use read::{ReadReply, read_operand};
+pub use read::{ReadReply, read_line, read_operand};

@@ -1,6 +1,6 @@
 // A line of a scenario.
-ghost use Rattle.std.specs.Prelude.{◌≡◌, IfOk};
-ghost use Rattle.playing.specs.Lines.{Unended, WordsOf};
+ghost use Rattle.std.specs.Prelude.{◌≡◌, IfOk, string_bytes};
+ghost use Rattle.playing.specs.Lines.{Unended, WordsOf, error_line};
 
 use scenario::{begins_with, split_words};
 use std::alloc::{AllocError, Global};
@@ -21,4 +21,11 @@ pub fn line_words<'a>(heap: Global, line: &'a [u8]) -> Result<Option<Vec<&'a [u8
         return Ok(None);
     }
     Ok(Some(words))
+}
+
+// What the line of this number prints if it is no command.
+pub fn error_line(heap: Global, number: u64) -> Result<String, AllocError>
+    ensures { IfOk result (λ s. string_bytes s ≡ error_line number) }
+{
+    format!(in heap; "error {number}")
 }

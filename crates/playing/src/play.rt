@@ -1,5 +1,5 @@
 // The loop over the lines of a scenario.
-ghost use Rattle.std.specs.Prelude.{◌≤◌, IfOk};
+ghost use Rattle.std.specs.Prelude.{◌<◌, IfOk, IfSome};
 
 use crate::line::without_feed;
 use std::alloc::Global;
@@ -13,16 +13,16 @@ pub trait LinePlayer {
 }
 
 // Plays the lines from the one of number `first` on, until the player breaks off or the text ends.
-// What it gives is the number of the next line.
+// What it gives is the number of the line behind the one that broke off; none where the text has ended.
 pub fn play_lines<P: LinePlayer>(
     player: &mut P,
     heap: Global,
     input: &mut BufReader<Stdin>,
     first: u64,
-) -> anyhow::Result<u64>
-    ensures { IfOk result (λ next. first ≤ next) }
+) -> anyhow::Result<Option<u64>>
+    ensures { IfOk result (λ o. IfSome o (λ next. first < next)) }
 {
-    // The lines are counted, since their answers print the number and the input has no other bound.
+    // A loop has to end, so the lines are counted; their answers print the number.
     let mut line = Vec::new(heap);
     for number in first..u64::MAX {
         line.clear();
@@ -33,8 +33,8 @@ pub fn play_lines<P: LinePlayer>(
             .play_line(number, without_feed(line.as_slice()))?
             .is_break()
         {
-            return Ok(number + 1);
+            return Ok(Some(number + 1));
         }
     }
-    Ok(u64::MAX)
+    Ok(None)
 }

@@ -13,12 +13,20 @@ pub fn begins_with(text: &[u8], octet: u8) -> bool
     text.first() == Some(&octet)
 }
 
-// The words borrow the line, so only the list of them is allocated.
-pub fn split_words<'a>(heap: Global, line: &'a [u8]) -> Result<Vec<&'a [u8]>, AllocError>
-    ensures value { IfOk result (λ v. map text v.items ≡ words line.now) }
-    ensures reads_back { IfOk result (λ v. (ws : List (List ℕ)) → AllByRecursion Word ws → line.now ≡ spaced ws → map text v.items ≡ ws) }
+// The parts between spaces, without the empty ones. They borrow the line, so only the list of them is allocated.
+fn words_between<'a>(heap: Global, line: &'a [u8]) -> Result<Vec<&'a [u8]>, AllocError>
+    ensures { IfOk result (λ v. map text v.items ≡ words line.now) }
 {
     line.split(|octet| *octet == SPACE)
         .filter(|word| !word.is_empty())
         .collect(heap)
+}
+
+// The words of a line, of which those that a space joins come apart again.
+#[tactic(auto, using(crate::proofs::Cuts::words_law))]
+pub fn split_words<'a>(heap: Global, line: &'a [u8]) -> Result<Vec<&'a [u8]>, AllocError>
+    ensures value { IfOk result (λ v. map text v.items ≡ words line.now) }
+    ensures reads_back { IfOk result (λ v. (ws : List (List ℕ)) → AllByRecursion Word ws → line.now ≡ spaced ws → map text v.items ≡ ws) }
+{
+    words_between(heap, line)
 }

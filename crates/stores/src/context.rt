@@ -1,11 +1,11 @@
 // The routing context of a PDU session: which SMF has it, and for which slice and DNN.
 ghost use Rattle.std.specs.Prelude.{◌≡◌};
 ghost use Rattle.stores.specs.Contexts.{fits};
-ghost use Rattle.stores.specs.declared.pdu_session.PduSession.{PduSession};
 
 use crate::pdu_session::PduSession;
 use codes::{DnnNumber, SessionId, SliceCode, SmfId, UeNumber};
 
+// Plain fields, as each is read by itself: a nested `PduSession` or `SliceDnn` would only lengthen that.
 #[derive(Clone, Copy)]
 pub struct Context {
     pub ue: UeNumber,

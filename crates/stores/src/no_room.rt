@@ -1,6 +1,5 @@
 // A store's answer where it has no room for a context.
 ghost use Rattle.std.specs.Prelude.{◌≡◌};
-ghost use Rattle.codes.specs.declared.refusal.Refusal.{Refusal};
 ghost use Rattle.codes.specs.declared.refusal.Refusal.TheVariants as refusal;
 
 use codes::Refusal;

@@ -2,7 +2,7 @@
 ghost use Rattle.std.specs.Prelude.{◌≡◌};
 ghost use Rattle.stores.specs.Contexts.{pair_fits};
 
-use codes::{SessionId, UeNumber};
+use codes::{SessionId, UeNumber, is_session};
 
 #[derive(Clone, Copy, Debug, PartialEq, Eq)]
 pub struct PduSession {
@@ -15,6 +15,6 @@ impl PduSession {
     pub fn is_in_bounds(&self) -> bool
         ensures { result ≡ pair_fits self.now.ue self.now.id }
     {
-        self.ue > 0 && (1..=15).contains(&self.id)
+        self.ue > 0 && is_session(self.id)
     }
 }

@@ -110,3 +110,11 @@ fn writes_returns(rt: HostRuntime) {
     assert!(rt; refused == Err(Refusal::OutputLength));
     assert_eq!(rt; short, [0xEE; 14]);
 }
+
+#[test]
+fn session_numbers(rt: HostRuntime) {
+    assert!(rt; !codes::is_session(0));
+    assert!(rt; codes::is_session(1));
+    assert!(rt; codes::is_session(15));
+    assert!(rt; !codes::is_session(16));
+}

@@ -42,3 +42,18 @@ fn writes_replies(rt: HostRuntime) -> Result<(), Fail> {
     assert_eq!(rt; refused.as_str(), "read refused 3");
     Ok(())
 }
+
+#[test]
+fn writes_lines(rt: HostRuntime) -> Result<(), Fail> {
+    let heap = rt.alloc();
+    let said = read_line(heap, &sample_message())?;
+    assert_eq!(rt;
+        said.as_str(),
+        "read payload 2E0101C1 session 1 old - request 1 slice - dnn -"
+    );
+    let refused = read_line(heap, &[])?;
+    assert_eq!(rt; refused.as_str(), "read refused 3");
+    let error = error_line(heap, 12)?;
+    assert_eq!(rt; error.as_str(), "error 12");
+    Ok(())
+}

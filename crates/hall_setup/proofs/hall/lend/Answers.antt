@@ -1,16 +1,9 @@
-use Rattle.std.proofs.Common.{map, vec_items, ap, ◌∙◌, arith}
-use Rattle.std.proofs.lemmas.List.{take_all, length-map}
-use Rattle.hall_setup.proofs.Named.{lent_more}
+use Rattle.std.proofs.Common.{vec_items, rules, tests}
+use Rattle.std.proofs.lemmas.Iterator.{YieldsList-from_slice, YieldsList-from_map_by}
+use Rattle.std.proofs.lemmas.Iterator.Consumers.{map_from_collect, YieldsList-at}
 use Rattle.hall_setup.proofs.hall.lend.Goals as goal
-
-pub loop-name-preserved : goal.loop-name-preserved
-loop-name-preserved c =
-    lent_more c.args.names.now c.loop-name.name-index c.name-item.result c.loop-name-test.true _ c.as_slice.result
-    c.loop-name.invariant
-    (c.as_slice.ensures.value ∙ ap vec_items c.name-item.is)
-    c.in_ok-push.ensures.items
 
 pub returns : goal.returns
 returns c =
-    let names = c.args.names.now in
-    c.loop-name.invariant ∙ take_all _ (map vec_items names) (omega (arith, length-map names vec_items, c.loop-name-test.false))
+    map_from_collect c.collect.result c.collect.ensures.ran
+    (YieldsList-from_map_by _ (λ n. n.now) vec_items (YieldsList-at c.map.ensures.source (YieldsList-from_slice c.args.names.now cc)) c.map.ensures.closure (λ x r q k. search (rules, tests)))

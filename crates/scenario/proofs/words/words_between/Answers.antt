@@ -2,8 +2,8 @@ use Rattle.std.proofs.Common.{◌≡◌, rules, tests}
 use Rattle.std.specs.Slice.Iter.{split_rest}
 use Rattle.std.proofs.lemmas.Iterator.Consumers.{map_from_collect, YieldsList-from_filter, YieldsList-at}
 use Rattle.std.proofs.lemmas.Iterator.Splits.{YieldsList-from_slice_split}
-use Rattle.scenario.proofs.Cuts.{is_space, is_word, words_split, words_law}
-use Rattle.scenario.proofs.words.split_words.Goals as goal
+use Rattle.scenario.proofs.Cuts.{is_space, is_word, words_split}
+use Rattle.scenario.proofs.words.words_between.Goals as goal
 
 pub returns : goal.returns
 returns c =
@@ -12,5 +12,4 @@ returns c =
     let filter = c.filter.ensures in
     let whole : split_rest c.split.result ≡ line = cc in
     let h = map_from_collect _ c.collect.ensures.ran (YieldsList-from_filter _ is_word (YieldsList-at filter.source (YieldsList-from_slice_split _ is_space line whole split.done split.closure (λ x b q k. search (rules, tests)))) filter.closure (λ x b q k. search (rules, tests))) in
-    let v = rw (words_split line) at h in
-    record { value = v; reads_back = words_law line c.collect.result v }
+    rw (words_split line) at h

@@ -1,0 +1,5 @@
+-- The numbers that a PDU session of a UE can have.
+use Rattle.std.specs.Prelude.{ℕ, Bool, ◌&&◌, nat_lt}
+
+abbrev pub session_fits : ℕ → Bool
+session_fits k = nat_lt 0 k && nat_lt k 16
