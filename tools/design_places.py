@@ -13,19 +13,22 @@ import subprocess
 import sys
 
 
+def files_of(commit, pattern):
+    """(path, text) of each file of git's whose path fits the pattern, in the order of their paths."""
+    listed = ["git", "ls-tree", "-r", "--name-only", commit] if commit else ["git", "ls-files"]
+    for name in sorted(subprocess.run(listed, capture_output=True, text=True, check=True).stdout.split("\n")):
+        if not re.match(pattern, name):
+            continue
+        if commit:
+            yield name, subprocess.run(["git", "show", f"{commit}:{name}"], capture_output=True, text=True, check=True).stdout
+        elif os.path.exists(name):
+            with open(name, encoding="utf-8") as file:
+                yield name, file.read()
+
+
 def sources(commit):
-    """(path, text) of each file of src/, but for the crate of tests."""
-    if commit:
-        names = subprocess.run(["git", "ls-tree", "-r", "--name-only", commit], capture_output=True, text=True, check=True).stdout.split("\n")
-    else:
-        names = subprocess.run(["git", "ls-files"], capture_output=True, text=True, check=True).stdout.split("\n")
-    for name in sorted(names):
-        if re.match(r"crates/[^/]+/src/.*\.rt$", name) and not name.startswith("crates/tests/"):
-            if commit:
-                yield name, subprocess.run(["git", "show", f"{commit}:{name}"], capture_output=True, text=True, check=True).stdout
-            elif os.path.exists(name):
-                with open(name, encoding="utf-8") as file:
-                    yield name, file.read()
+    """The files of src/, but for the crate of tests."""
+    return files_of(commit, r"crates/(?!tests/)[^/]+/src/.*\.rt$")
 
 
 class Function:
@@ -182,21 +185,9 @@ def point_7(files, found):
 
 def point_8(commit, found):
     """Not places but sizes: of the proofs of each crate, how many answers, invariants, lemmas and lines there are."""
-    if commit:
-        names = subprocess.run(["git", "ls-tree", "-r", "--name-only", commit], capture_output=True, text=True, check=True).stdout.split("\n")
-    else:
-        names = subprocess.run(["git", "ls-files"], capture_output=True, text=True, check=True).stdout.split("\n")
     sizes = collections.defaultdict(collections.Counter)
-    for name in names:
-        match = re.match(r"crates/([^/]+)/(proofs|specs)/(.*\.antt)$", name)
-        if not match or (not commit and not os.path.exists(name)):
-            continue
-        if commit:
-            text = subprocess.run(["git", "show", f"{commit}:{name}"], capture_output=True, text=True, check=True).stdout
-        else:
-            with open(name, encoding="utf-8") as file:
-                text = file.read()
-        crate, folder, rest = match.groups()
+    for name, text in files_of(commit, r"crates/[^/]+/(proofs|specs)/.*\.antt$"):
+        crate, folder, rest = re.match(r"crates/([^/]+)/(proofs|specs)/(.*)", name).groups()
         size = sizes[crate]
         size[f"lines of {folder}"] += text.count("\n")
         if folder == "proofs" and rest.endswith("/Answers.antt"):
