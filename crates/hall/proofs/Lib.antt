@@ -1,1 +1,3 @@
+pub mod Named
+pub mod Setting
 pub mod Lawful

@@ -1,8 +1,28 @@
--- What a command of the code stands for.
-use Rattle.std.specs.Prelude.{vec_items}
-use Rattle.hall.specs.declared.command.Command as code
-use Rattle.hall.specs.declared.command.Command.TheVariants.{Read}
-use Rattle.hall.specs.Lines.{Command, read}
+-- What the words of a line ask for.
+use Rattle.std.specs.Prelude.{ℕ, List, [], ◌∷◌, None, Option}
+use Rattle.std.specs.Option.{option_map}
+use Rattle.playing.specs.Lines.{operand_in}
+use Rattle.hall.specs.declared.verb.Verb.{Verb}
+use Rattle.hall.specs.declared.verb.Verb.TheVariants.{Read, Book, Store, Directory, Serve, Mark, Control, Set, Clear}
+use Rattle.hall.specs.Changes.{Change, where_some, book_words, store_words, directory_words, serve_words, mark_words, control_words, set_words, clear_words}
+use Rattle.hall.specs.Verbs.{verb_in}
 
-abbrev pub asked : code.Command → Command
-asked (Read octets) = read (vec_items octets)
+pub data Command : Type 0 where
+  read : List ℕ → Command
+  change : Change → Command
+
+-- a verb, and the words behind it
+abbrev pub command_of : Verb → List (List ℕ) → Option Command
+command_of Read words = option_map read (operand_in words)
+command_of Book words = option_map change (book_words words)
+command_of Store words = option_map change (store_words words)
+command_of Directory words = option_map change (directory_words words)
+command_of Serve words = option_map change (serve_words words)
+command_of Mark words = option_map change (mark_words words)
+command_of Control words = option_map change (control_words words)
+command_of Set words = option_map change (set_words words)
+command_of Clear words = option_map change (clear_words words)
+
+abbrev pub command_words : List (List ℕ) → Option Command
+command_words [] = None
+command_words (word ∷ rest) = where_some (verb_in word) (λ verb. command_of verb rest)

@@ -1,2 +1,11 @@
-pub mod Lines
+pub mod Verbs
+pub mod Kinds
+pub mod Changes
+pub mod Asked
 pub mod Commands
+pub mod Readings
+pub mod Ends
+pub mod Outcomes
+pub mod Effects
+pub mod Halls
+pub mod Lines

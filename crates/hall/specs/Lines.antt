@@ -1,35 +1,27 @@
 -- What a line of a scenario asks for, and what it prints.
-use Rattle.std.specs.Prelude.{◌≡◌, ℕ, ◌<◌, cond, List, [], ◌∷◌, ◌++◌, Some, None, codes, Option}
-use Rattle.std.specs.Option.{option_map}
+use Rattle.std.specs.Prelude.{◌≡◌, ℕ, ◌<◌, true, false, List, ◌++◌, Some, None, codes, Option}
 use Rattle.std.specs.List.{AllByRecursion}
-use Rattle.std.specs.Str.{bytes_eq}
 use Rattle.nas.specs.Uplinks as uplinks
 use Rattle.printing.specs.Octets.{octets_text}
 use Rattle.scenario.specs.Words.{words}
-use Rattle.playing.specs.Lines.{operand_in, error_line, read_line, silent}
+use Rattle.playing.specs.Lines.{error_line, read_line, silent}
+use Rattle.control.specs.declared.control_row.ControlRow.{ControlRow}
+use Rattle.hall.specs.declared.directory.HallDirectory.{HallDirectory}
+use Rattle.hall.specs.Ends.{Outcome}
+use Rattle.hall.specs.Commands.{Command, read, change, command_words}
+use Rattle.hall.specs.Effects.{OutcomeFor}
+use Rattle.hall.specs.Outcomes.{outcome_line}
 
--- ---- what a line asks for
+-- What a command of this line number prints, by the directory and the control rows that stand before it: what is read,
+-- or the line of the outcome.
+abbrev pub Printed : Option HallDirectory → List ControlRow → ℕ → Command → List ℕ → Type 0
+Printed d rows number (read octets) s = s ≡ read_line (uplinks.read octets)
+Printed d rows number (change c) s = (o : Outcome) × OutcomeFor d rows c o × (s ≡ outcome_line number c o)
 
-pub data Command : Type 0 where
-  read : List ℕ → Command
-
--- the words behind `read`
-abbrev pub read_words : List (List ℕ) → Option Command
-read_words words = option_map read (operand_in words)
-
-abbrev pub command_words : List (List ℕ) → Option Command
-command_words [] = None
-command_words (verb ∷ rest) = cond (bytes_eq verb (codes "read")) (read_words rest) None
-
--- ---- what it prints
-
-abbrev pub answer_line : ℕ → Option Command → List ℕ
-answer_line number None = error_line number
-answer_line number (Some (read octets)) = read_line (uplinks.read octets)
-
--- what the line of this number prints, if it prints anything
-abbrev pub printed : ℕ → List ℕ → Option (List ℕ)
-printed number line = cond (silent line) None (Some (answer_line number (command_words (words line))))
+-- the same, where the line may be no command
+abbrev pub PrintedIf : Option HallDirectory → List ControlRow → ℕ → Option Command → List ℕ → Type 0
+PrintedIf d rows number None s = s ≡ error_line number
+PrintedIf d rows number (Some command) s = Printed d rows number command s
 
 -- ---- what holds of every answer o to the line of this number
 
@@ -38,7 +30,8 @@ abbrev pub OctetsRead : List ℕ → Option (List ℕ) → Type 0
 OctetsRead line o =
     (xs : List ℕ) → AllByRecursion (λ x. x < 256) xs → line ≡ codes "read " ++ octets_text xs → o ≡ Some (read_line (uplinks.read xs))
 
--- the answer is the one that the definition gives, and keeps this law
-pub record Answers (number : ℕ) (line : List ℕ) (o : Option (List ℕ)) : Type 0 where
-  pub value : o ≡ printed number line
+-- what every answer o to the line of this number is
+pub record Answers (d : Option HallDirectory) (rows : List ControlRow) (number : ℕ) (line : List ℕ) (o : Option (List ℕ)) : Type 0 where
+  pub quiet : silent line ≡ true → o ≡ None
+  pub loud : silent line ≡ false → (s : List ℕ) × (o ≡ Some s) × PrintedIf d rows number (command_words (words line)) s
   pub octets_read : OctetsRead line o

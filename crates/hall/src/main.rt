@@ -1,32 +1,52 @@
 // Plays a scenario: one command a line on standard input, one line printed for each.
 #![tactic(auto)]
 
-mod answer;
+mod change;
 mod command;
+mod directory;
+mod directory_kind;
+mod directory_state;
+mod hall;
+mod not_done;
+mod outcome;
+mod parse_change;
+mod player;
+mod verb;
+mod word;
 
-use answer::answer;
-use playing::{LinePlayer, play_lines};
+use control::{ControlRow, ControlTable};
+use hall::Hall;
+use player::Player;
+use playing::play_lines;
 use std::io::BufReader;
-use std::ops::ControlFlow;
 
-// Prints what each line answers.
-#[derive(Drop)]
-struct Printer<'a> {
-    rt: &'a HostRuntime,
-}
-
-impl LinePlayer for Printer<'_> {
-    fn play_line(&mut self, number: u64, line: &[u8]) -> anyhow::Result<ControlFlow<()>> {
-        if let Some(text) = answer(self.rt.alloc(), number, line)? {
-            self.rt.println(text)?;
-        }
-        Ok(ControlFlow::Continue(()))
+fn play(rt: &HostRuntime) -> anyhow::Result<()> {
+    let mut input = BufReader::new(rt.alloc(), rt.stdin())?;
+    let mut hall = Hall::new();
+    let mut number = 1;
+    // A loop has to end, so the tables are counted: there are no more than lines.
+    for _ in 1..u64::MAX {
+        let Some(rows) = hall.take_wanted_rows() else {
+            break;
+        };
+        let mut space = [ControlRow::free(); 64];
+        // Only so many rows are wanted as `ControlTable::check_rows` let through, so that this table is made.
+        let Ok(table) = ControlTable::new(&mut space[..rows.min(64)]) else {
+            break;
+        };
+        let mut player = Player {
+            rt,
+            hall: &mut hall,
+            table,
+        };
+        let Some(next) = play_lines(&mut player, rt.alloc(), &mut input, number)? else {
+            break;
+        };
+        number = next;
     }
+    Ok(())
 }
 
 fn main(rt: HostRuntime) -> anyhow::Result<()> {
-    let mut input = BufReader::new(rt.alloc(), rt.stdin())?;
-    let mut printer = Printer { rt: &rt };
-    play_lines(&mut printer, rt.alloc(), &mut input, 1)?;
-    Ok(())
+    play(&rt)
 }

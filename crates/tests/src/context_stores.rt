@@ -5,6 +5,7 @@ use grid::*;
 use std::process::Abort;
 use std::test::Fail;
 use stores::*;
+use tables::find_row;
 
 // A call, and what it has to answer. Sessions from 10 on are put as emergency sessions.
 #[derive(Clone, Copy)]
@@ -111,6 +112,20 @@ fn flat_rows(rt: HostRuntime) {
     assert!(rt; FlatStore::check_rows(16).is_ok());
     assert!(rt; FlatStore::check_rows(256).is_ok());
     assert!(rt; FlatStore::check_rows(257).is_err());
+}
+
+// What is refused leaves the rows as they were.
+#[test]
+fn refused_flat_rows(rt: HostRuntime) -> Result<(), Fail> {
+    let mut rows = [ContextRow::free(); 16];
+    let Ok(mut store) = FlatStore::new(&mut rows) else {
+        assert!(rt; false);
+        return Ok(());
+    };
+    assert!(rt; store.put(context(5, 1, 7, 1)).is_ok());
+    assert_eq!(rt; row_count_refusal(&mut rows[..15]), 16);
+    assert_eq!(rt; find_row(&rows, &PduSession { ue: 5, id: 1 }), Some(0));
+    Ok(())
 }
 
 #[test]

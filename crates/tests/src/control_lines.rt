@@ -63,6 +63,27 @@ fn sets_and_clears_lines(rt: HostRuntime) -> Result<(), Fail> {
 }
 
 #[test]
+fn has_64_lines(rt: HostRuntime) -> Result<(), Fail> {
+    let mut rows = [ControlRow::free(); 64];
+    let Ok(mut table) = ControlTable::new(&mut rows) else {
+        assert!(rt; false);
+        return Ok(());
+    };
+    // a 65th line is refused, another octet for one that stands is not
+    for (first, behind, refusal) in [(0, 64, 0), (64, 65, 20), (63, 64, 0)] {
+        for dnn in first..behind {
+            let numbers = ControlNumbers {
+                kind: 1,
+                slice: SLICE,
+                dnn,
+            };
+            assert_eq!(rt; number_of(table.set(numbers, 0x20)), refusal);
+        }
+    }
+    Ok(())
+}
+
+#[test]
 fn finds_places_for_lines(rt: HostRuntime) -> Result<(), Fail> {
     let mut rows = [ControlRow::free(); 2];
     let numbers = ControlNumbers {
@@ -79,6 +100,9 @@ fn finds_places_for_lines(rt: HostRuntime) -> Result<(), Fail> {
     assert_eq!(rt; find_target(&rows, &ControlKey::Dnn(1)), Some(0));
     assert_eq!(rt; find_target(&rows, &ControlKey::Dnn(2)), Some(1));
     assert_eq!(rt; find_target(&rows[..1], &ControlKey::Dnn(2)), None);
+    // a table that is refused leaves the rows as they were
+    assert_eq!(rt; row_count_refusal(&mut rows[..0]), 16);
+    assert_eq!(rt; find_target(&rows, &ControlKey::Dnn(2)), Some(1));
     Ok(())
 }
 

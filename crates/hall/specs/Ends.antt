@@ -1,0 +1,19 @@
+-- How a change ended.
+use Rattle.std.specs.Prelude.{Some, None, Ok, Err, Option, Result}
+use Rattle.codes.specs.declared.refusal.Refusal.{Refusal}
+use Rattle.codes.specs.declared.setup_error.SetupError.TheVariants as setup
+use Rattle.hall.specs.declared.not_done.NotDone.{NotDone}
+use Rattle.hall.specs.declared.not_done.NotDone.TheVariants as ends
+
+-- it was made, was refused, or came before what it needs
+pub data Outcome : Type 0 where
+  Accepted : Outcome
+  Refused : Refusal → Outcome
+  Misplaced : Outcome
+
+-- the outcome, where there was memory
+abbrev pub outcome_of : Result (Unit {0}) NotDone → Option Outcome
+outcome_of (Ok _) = Some Accepted
+outcome_of (Err (ends.Setup (setup.Refused r))) = Some (Refused r)
+outcome_of (Err (ends.Setup setup.OutOfMemory)) = None
+outcome_of (Err ends.Misplaced) = Some Misplaced

@@ -1,0 +1,10 @@
+-- What a command of the code stands for.
+use Rattle.std.specs.Prelude.{vec_items}
+use Rattle.hall.specs.declared.command.Command as code
+use Rattle.hall.specs.declared.command.Command.TheVariants.{Read, Change}
+use Rattle.hall.specs.Asked.{wanted}
+use Rattle.hall.specs.Commands.{Command, read, change}
+
+abbrev pub asked : code.Command → Command
+asked (Read octets) = read (vec_items octets)
+asked (Change c) = change (wanted c)

@@ -1,0 +1,24 @@
+-- The first words of the commands.
+use Rattle.std.specs.Prelude.{ℕ, List, [], ◌∷◌, codes, Option}
+use Rattle.std.specs.List.{find}
+use Rattle.std.specs.Str.{bytes_eq}
+use Rattle.hall.specs.declared.verb.Verb.{Verb}
+use Rattle.hall.specs.declared.verb.Verb.TheVariants.{Read, Book, Store, Directory, Serve, Mark, Control, Set, Clear}
+
+abbrev pub verb_word : Verb → List ℕ
+verb_word Read = codes "read"
+verb_word Book = codes "book"
+verb_word Store = codes "store"
+verb_word Directory = codes "directory"
+verb_word Serve = codes "serve"
+verb_word Mark = codes "mark"
+verb_word Control = codes "control"
+verb_word Set = codes "set"
+verb_word Clear = codes "clear"
+
+abbrev pub all_verbs : List Verb
+all_verbs = Read ∷ Book ∷ Store ∷ Directory ∷ Serve ∷ Mark ∷ Control ∷ Set ∷ Clear ∷ []
+
+-- the verb that a word is
+abbrev pub verb_in : List ℕ → Option Verb
+verb_in word = find (λ v. bytes_eq word (verb_word v)) all_verbs
