@@ -100,9 +100,25 @@ fn finds_places_for_lines(rt: HostRuntime) -> Result<(), Fail> {
     assert_eq!(rt; find_target(&rows, &ControlKey::Dnn(1)), Some(0));
     assert_eq!(rt; find_target(&rows, &ControlKey::Dnn(2)), Some(1));
     assert_eq!(rt; find_target(&rows[..1], &ControlKey::Dnn(2)), None);
-    // a table that is refused leaves the rows as they were
-    assert_eq!(rt; row_count_refusal(&mut rows[..0]), 16);
-    assert_eq!(rt; find_target(&rows, &ControlKey::Dnn(2)), Some(1));
+    Ok(())
+}
+
+// What is refused leaves the rows as they were.
+#[test]
+fn refused_control_rows(rt: HostRuntime) -> Result<(), Fail> {
+    let mut rows = [ControlRow::free(); 65];
+    let Ok(mut table) = ControlTable::new(&mut rows[..1]) else {
+        assert!(rt; false);
+        return Ok(());
+    };
+    let numbers = ControlNumbers {
+        kind: 1,
+        slice: SLICE,
+        dnn: 1,
+    };
+    assert_eq!(rt; number_of(table.set(numbers, 0x20)), 0);
+    assert_eq!(rt; row_count_refusal(&mut rows), 16);
+    assert_eq!(rt; find_row(&rows, &ControlKey::Dnn(1)), Some(0));
     Ok(())
 }
 
