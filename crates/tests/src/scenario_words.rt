@@ -4,38 +4,50 @@ use std::test::Fail;
 
 #[test]
 fn reads_numbers(rt: HostRuntime) {
-    assert_eq!(rt; parse_number(b"0"), Some(0));
-    assert_eq!(rt; parse_number(b"007"), Some(7));
-    assert_eq!(rt; parse_number(b"18446744073709551615"), Some(u64::MAX));
-    assert_eq!(rt; parse_number(b"18446744073709551616"), None);
-    assert_eq!(rt; parse_number(b""), None);
-    assert_eq!(rt; parse_number(b"+1"), None);
-    assert_eq!(rt; parse_number(b"1a"), None);
+    let cases = [
+        (b"0".as_slice(), Some(0)),
+        (b"007", Some(7)),
+        (b"18446744073709551615", Some(u64::MAX)),
+        (b"18446744073709551616", None),
+        (b"", None),
+        (b"+1", None),
+        (b"1a", None),
+    ];
+    for (word, number) in cases {
+        assert_eq!(rt; parse_number(word), number);
+    }
 }
 
 #[test]
 fn reads_octets(rt: HostRuntime) -> Result<(), Fail> {
-    let heap = rt.alloc();
-    assert_eq!(rt; parse_octets(heap, b"-")?, Some(Vec::new(heap)));
-    assert_eq!(rt;
-        parse_octets(heap, b"00ff")?,
-        Some([0x00, 0xFF].to_vec(heap)?)
-    );
-    assert_eq!(rt; parse_octets(heap, b"aB")?, Some([0xAB].to_vec(heap)?));
-    assert_eq!(rt; parse_octets(heap, b"abc")?, None);
-    assert_eq!(rt; parse_octets(heap, b"0g")?, None);
-    assert_eq!(rt; parse_octets(heap, b"")?, None);
+    let cases = [
+        (b"-".as_slice(), Some(b"".as_slice())),
+        (b"00ff", Some(b"\x00\xFF")),
+        (b"aB", Some(b"\xAB")),
+        (b"abc", None),
+        (b"0g", None),
+        (b"", None),
+    ];
+    for (word, octets) in cases {
+        let read = parse_octets(rt.alloc(), word)?;
+        assert_eq!(rt; read.as_deref(), octets);
+    }
     Ok(())
 }
 
 #[test]
 fn reads_one_octet(rt: HostRuntime) {
-    assert_eq!(rt; parse_octet(b"2a"), Some(0x2A));
-    assert_eq!(rt; parse_octet(b"F0"), Some(0xF0));
-    assert_eq!(rt; parse_octet(b"2"), None);
-    assert_eq!(rt; parse_octet(b"2A2"), None);
-    assert_eq!(rt; parse_octet(b"2G"), None);
-    assert_eq!(rt; parse_octet(b"-"), None);
+    let cases = [
+        (b"2a".as_slice(), Some(0x2A)),
+        (b"F0", Some(0xF0)),
+        (b"2", None),
+        (b"2A2", None),
+        (b"2G", None),
+        (b"-", None),
+    ];
+    for (word, octet) in cases {
+        assert_eq!(rt; parse_octet(word), octet);
+    }
 }
 
 #[test]
@@ -48,10 +60,15 @@ fn splits_words(rt: HostRuntime) -> Result<(), Fail> {
 
 #[test]
 fn reads_slices(rt: HostRuntime) {
-    assert_eq!(rt; parse_slice(b"01000aFF"), Some(0x01_00_0A_FF));
-    assert_eq!(rt; parse_slice(b"FFFFFFFF"), Some(u32::MAX));
-    assert_eq!(rt; parse_slice(b"01000AF"), None);
-    assert_eq!(rt; parse_slice(b"01000AFF0"), None);
-    assert_eq!(rt; parse_slice(b"01000AFG"), None);
-    assert_eq!(rt; parse_slice(b"-"), None);
+    let cases = [
+        (b"01000aFF".as_slice(), Some(0x01_00_0A_FF)),
+        (b"FFFFFFFF", Some(u32::MAX)),
+        (b"01000AF", None),
+        (b"01000AFF0", None),
+        (b"01000AFG", None),
+        (b"-", None),
+    ];
+    for (word, slice) in cases {
+        assert_eq!(rt; parse_slice(word), slice);
+    }
 }
