@@ -2,6 +2,7 @@
 #![tactic(auto)]
 
 mod cause;
+mod handed_back;
 mod ids;
 mod refusal;
 mod request_type;
@@ -10,6 +11,7 @@ mod setup_error;
 mod slice_dnn;
 
 pub use cause::Cause;
+pub use handed_back::HandedBack;
 pub use ids::{DnnNumber, SessionId, SliceCode, SmfId, UeNumber};
 pub use refusal::Refusal;
 pub use request_type::RequestType;

@@ -8,7 +8,7 @@ ghost use Rattle.control.specs.Controls.{Empty, Setting, Clearing};
 use crate::control_key::ControlKey;
 use crate::control_numbers::ControlNumbers;
 use crate::control_row::ControlRow;
-use codes::Refusal;
+use codes::{HandedBack, Refusal};
 use tables::Table;
 
 #[derive(Drop)]
@@ -27,12 +27,19 @@ impl<'a> ControlTable<'a> {
         Ok(())
     }
 
-    // An empty table over 1 to 64 rows.
+    // An empty table over 1 to 64 rows. Others are handed back as they were.
     #[tactic(auto, using(crate::proofs::Keyed::free_back_off, crate::proofs::Keyed::free_count))]
-    pub fn new(rows: &'a mut [ControlRow]) -> Result<ControlTable<'a>, Refusal>
-        ensures { MatchResult result (λ t. (rows_fit (length rows.old) ≡ true) × (length t.table.rows.now ≡ length rows.old) × Empty t.table.rows.now) (λ e. (rows_fit (length rows.old) ≡ false) × (e ≡ Opening)) }
+    pub fn new(
+        rows: &'a mut [ControlRow],
+    ) -> Result<ControlTable<'a>, HandedBack<&'a mut [ControlRow]>>
+        ensures { MatchResult result (λ t. (rows_fit (length rows.old) ≡ true) × (length t.table.rows.now ≡ length rows.old) × Empty t.table.rows.now) (λ h. (rows_fit (length rows.old) ≡ false) × (h.refusal ≡ Opening) × (h.value ≡ rows.entry)) }
     {
-        ControlTable::check_rows(rows.len())?;
+        if let Err(refusal) = ControlTable::check_rows(rows.len()) {
+            return Err(HandedBack {
+                refusal,
+                value: rows,
+            });
+        }
         Ok(ControlTable {
             table: Table::new(rows),
         })

@@ -9,7 +9,7 @@ ghost use Rattle.flat.specs.Held.{rows_fit};
 ghost use Rattle.flat.specs.Laws.{laws_of};
 
 use crate::context_row::ContextRow;
-use codes::{Refusal, SessionId};
+use codes::{HandedBack, Refusal, SessionId};
 use stores::{Context, NoRoom, PduSession, Store};
 use tables::{Table, all_free, find_target};
 
@@ -46,12 +46,19 @@ impl<'a> FlatStore<'a> {
         Ok(())
     }
 
-    // An empty store over 16 to 256 rows.
+    // An empty store over 16 to 256 rows. Others are handed back as they were.
     #[tactic(auto, using(crate::proofs::Tells::none_held))]
-    pub fn new(rows: &'a mut [ContextRow]) -> Result<FlatStore<'a>, Refusal>
-        ensures { MatchResult result (λ s. (rows_fit (length rows.old) ≡ true) × (held_in s.table.rows.now ≡ []) × (length s.table.rows.now ≡ length rows.old)) (λ e. (rows_fit (length rows.old) ≡ false) × (e ≡ Opening)) }
+    pub fn new(
+        rows: &'a mut [ContextRow],
+    ) -> Result<FlatStore<'a>, HandedBack<&'a mut [ContextRow]>>
+        ensures { MatchResult result (λ s. (rows_fit (length rows.old) ≡ true) × (held_in s.table.rows.now ≡ []) × (length s.table.rows.now ≡ length rows.old)) (λ h. (rows_fit (length rows.old) ≡ false) × (h.refusal ≡ Opening) × (h.value ≡ rows.entry)) }
     {
-        FlatStore::check_rows(rows.len())?;
+        if let Err(refusal) = FlatStore::check_rows(rows.len()) {
+            return Err(HandedBack {
+                refusal,
+                value: rows,
+            });
+        }
         let table = Table::new(rows);
         Ok(FlatStore { table })
     }
