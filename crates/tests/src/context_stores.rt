@@ -94,9 +94,10 @@ fn any_store<S: Store>(rt: &impl Abort, store: &mut S) {
 }
 
 fn row_count_refusal(rows: &mut [ContextRow]) -> u8 {
-    FlatStore::new(rows)
-        .err()
-        .map_or(0, |handed_back| u8::from(handed_back.refusal))
+    match FlatStore::new(rows) {
+        Ok(_) => 0,
+        Err(handed_back) => u8::from(handed_back.refusal),
+    }
 }
 
 #[test]

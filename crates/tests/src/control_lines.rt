@@ -12,9 +12,10 @@ fn number_of(res: Result<(), Refusal>) -> u8 {
 }
 
 fn row_count_refusal(rows: &mut [ControlRow]) -> u8 {
-    ControlTable::new(rows)
-        .err()
-        .map_or(0, |handed_back| u8::from(handed_back.refusal))
+    match ControlTable::new(rows) {
+        Ok(_) => 0,
+        Err(handed_back) => u8::from(handed_back.refusal),
+    }
 }
 
 #[test]
