@@ -11,11 +11,13 @@ fn number_of(res: Result<(), Refusal>) -> u8 {
     res.err().map_or(0, u8::from)
 }
 
+fn make_table(rows: &mut [ControlRow]) -> Result<(), Refusal> {
+    ControlTable::new(rows)?;
+    Ok(())
+}
+
 fn row_count_refusal(rows: &mut [ControlRow]) -> u8 {
-    match ControlTable::new(rows) {
-        Ok(_) => 0,
-        Err(handed_back) => u8::from(handed_back.refusal),
-    }
+    number_of(make_table(rows))
 }
 
 #[test]
