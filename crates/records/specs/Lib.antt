@@ -1,0 +1,3 @@
+pub mod Records
+pub mod Firsts
+pub mod Configurations

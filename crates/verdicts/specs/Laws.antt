@@ -1,0 +1,88 @@
+-- What holds of every verdict, in words other than the rules'.
+use Rattle.std.specs.Prelude.{◌≡◌, ℕ, Bool, true, false, ◌⊎◌, ◌↔◌, List, Some, None, Ok, Err, Option, Result, option_map, ◌==◌}
+use Rattle.std.specs.List.{find, list_any}
+use Rattle.codes.specs.declared.cause.Cause.{Cause}
+use Rattle.codes.specs.declared.cause.Cause.TheVariants.{DnnNotSupported}
+use Rattle.codes.specs.declared.slice_dnn.SliceDnn.{SliceDnn}
+use Rattle.codes.specs.declared.request_type.RequestType.TheVariants.{Initial}
+use Rattle.codes.specs.Causes.{back_off_octet}
+use Rattle.directories.specs.declared.no_smf.NoSmf.{NoSmf}
+use Rattle.directories.specs.declared.no_smf.NoSmf.TheVariants.{Closed, NoneServes}
+use Rattle.directories.specs.Choices.{Chosen}
+use Rattle.records.specs.Configurations.{emergency_smf}
+use Rattle.stores.specs.declared.context.Context.{Context}
+use Rattle.stores.specs.Contexts.{lookup, emergency_at}
+use Rattle.verdicts.specs.declared.decision.Decision.{Decision}
+use Rattle.verdicts.specs.declared.decision.Decision.TheVariants.{Forward, Establish, Return}
+use Rattle.verdicts.specs.declared.ruling.Ruling.{Ruling}
+use Rattle.verdicts.specs.declared.ruling.Ruling.TheVariants.{Settled, Choose}
+use Rattle.verdicts.specs.declared.verdict.Verdict.{Verdict}
+use Rattle.verdicts.specs.Cases.{Case, standing, requests}
+use Rattle.verdicts.specs.Rules.{Rule, rules, ruling, smf_in}
+use Rattle.verdicts.specs.Verdicts.{smf_of, verdict}
+
+-- a directory has to choose
+abbrev pub asks_directory : Ruling → Bool
+asks_directory (Settled d) = false
+asks_directory (Choose emergency release) = true
+
+-- what a directory answers that is open or closed and chose this SMF, if any
+abbrev pub answer_of : Bool → Option ℕ → Result ℕ NoSmf
+answer_of false m = Err Closed
+answer_of true None = Err NoneServes
+answer_of true (Some m) = Ok m
+
+abbrev pub establishes : Decision → Bool
+establishes (Forward m) = false
+establishes (Establish m emergency) = true
+establishes (Return cause) = false
+
+-- Of the rules one decides: at least one applies, and what is ruled is the first one's ruling.
+pub record OneRule (rs : List Rule) (r : Ruling) : Type 0 where
+  pub covered : list_any (λ rule. rule.applies) rs ≡ true
+  pub first : option_map (λ rule. rule.ruling) (find (λ rule. rule.applies) rs) ≡ Some r
+
+-- ---- where an SMF comes from
+
+-- it has the context of the session that is asked for
+abbrev pub StandingSmf : Case → ℕ → Type 0
+StandingSmf c m = smf_in (standing c) ≡ Some m
+
+-- a known line of the UE names it
+abbrev pub KnownSmf : Case → ℕ → Type 0
+KnownSmf c m = list_any (λ l. l.smf == m) c.asked.ue.known ≡ true
+
+-- it has an emergency context of another session of the UE
+abbrev pub EmergencySmf : Case → ℕ → Type 0
+EmergencySmf c m =
+    (j : ℕ) × (emergency_at c.contexts c.asked.ue.number c.asked.session j ≡ true) × (smf_in (lookup c.contexts c.asked.ue.number j) ≡ Some m)
+
+-- it is the static one of emergency sessions
+abbrev pub StaticSmf : Case → ℕ → Type 0
+StaticSmf c m = emergency_smf c.asked.configuration ≡ Some m
+
+-- the directory, which is open, has it for the slice and the DNN
+abbrev pub ServingSmf : Bool → (ℕ → ℕ → ℕ → Bool) → SliceDnn → ℕ → Type 0
+ServingSmf opened serves u m = (opened ≡ true) × (serves u.slice u.dnn m ≡ true)
+
+-- ---- all that holds of the verdict v on a case, where the directory is open or closed and has these SMFs
+
+pub record Judged (c : Case) (opened : Bool) (serves takes : ℕ → ℕ → ℕ → Bool) (v : Verdict) : Type 0 where
+  -- it is the one that the rules give
+  pub value : v ≡ verdict c opened (smf_of v.decision)
+  -- one rule decides
+  pub rule : OneRule (rules c) (ruling c)
+  -- the directory's choice is right
+  pub choice : asks_directory (ruling c) ≡ true → Chosen opened (serves v.used.slice v.used.dnn) (takes v.used.slice v.used.dnn) (answer_of opened (smf_of v.decision))
+  -- a payload goes only to an SMF that is named for it
+  pub named : (m : ℕ) → smf_of v.decision ≡ Some m → StandingSmf c m ⊎ (KnownSmf c m ⊎ (EmergencySmf c m ⊎ (StaticSmf c m ⊎ ServingSmf opened serves v.used m)))
+  -- it goes back as not supported exactly where a directory has to choose that is open and has none
+  pub unserved : v.decision ≡ Return DnnNotSupported ↔ ((asks_directory (ruling c) ≡ true) × (opened ≡ true) × ((m : ℕ) → serves v.used.slice v.used.dnn m ≡ false))
+  -- congestion never holds off a UE of high priority
+  pub priority : c.asked.ue.high_priority ≡ true → (cause : Cause) → v.decision ≡ Return cause → back_off_octet cause ≡ None
+  -- with no request type nothing is established,
+  pub plain : c.asked.request ≡ None → establishes v.decision ≡ false
+  -- and the payload goes to the SMF of the context that stands
+  pub kept : (x : Context) → c.asked.request ≡ None → standing c ≡ Some x → v.decision ≡ Forward x.smf
+  -- a session is released only for an initial request, at the SMF that had it
+  pub released : (m : ℕ) → v.release ≡ Some m → (requests Initial c.asked ≡ true) × StandingSmf c m

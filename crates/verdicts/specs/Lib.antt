@@ -1,0 +1,5 @@
+pub mod Cases
+pub mod Used
+pub mod Rules
+pub mod Verdicts
+pub mod Laws

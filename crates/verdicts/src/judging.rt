@@ -1,0 +1,77 @@
+// Judging: the verdict on a payload, over a store, control lines and a directory.
+ghost use Rattle.std.specs.Prelude.{◌≡◌, ℕ, true, false};
+ghost use Rattle.control.specs.Lines.{back_off_of};
+ghost use Rattle.directories.specs.Choices.{Chosen};
+ghost use Rattle.verdicts.specs.Cases.{case_of};
+ghost use Rattle.verdicts.specs.Rules.{ruling};
+ghost use Rattle.verdicts.specs.Verdicts.{chosen, smf_of, verdict};
+ghost use Rattle.verdicts.specs.Laws.{Judged, asks_directory, answer_of};
+
+use crate::decision::Decision;
+use crate::inquiry::Inquiry;
+use crate::rules::ruling;
+use crate::ruling::Ruling;
+use crate::verdict::Verdict;
+use codes::{Cause, SliceDnn};
+use control::ControlTable;
+use directories::{Directory, NoSmf};
+use stores::Store;
+
+// To the SMF that the directory chooses, or back where it names none.
+fn choose<D: Directory>(directory: &mut D, used: SliceDnn, emergency: bool) -> Decision
+    ensures value { result ≡ chosen emergency (D.Directory.opened directory.old) (smf_of result) }
+    ensures choice { Chosen (D.Directory.opened directory.old) (D.Directory.serves directory.old used.slice used.dnn) (D.Directory.takes directory.old used.slice used.dnn) (answer_of (D.Directory.opened directory.old) (smf_of result)) }
+    ensures opening { D.Directory.opened directory.new ≡ D.Directory.opened directory.old }
+    ensures serving { (s n m : ℕ) → D.Directory.serves directory.new s n m ≡ D.Directory.serves directory.old s n m }
+{
+    match directory.choose(used) {
+        Ok(smf) => Decision::Establish { smf, emergency },
+        Err(NoSmf::NoneServes) => Decision::Return(Cause::DnnNotSupported),
+        Err(NoSmf::Closed) => Decision::Return(Cause::NotForwarded),
+    }
+}
+
+// The verdict that the rules give.
+fn rule<S: Store, D: Directory>(
+    inquiry: &Inquiry<'_>,
+    store: &S,
+    controls: &ControlTable<'_>,
+    directory: &mut D,
+) -> Verdict
+    ensures value { result ≡ verdict (case_of inquiry.now (S.Store.contexts store.now) (back_off_of controls.now.table.rows.now)) (D.Directory.opened directory.old) (smf_of result.decision) }
+    ensures choice { asks_directory (ruling (case_of inquiry.now (S.Store.contexts store.now) (back_off_of controls.now.table.rows.now))) ≡ true → Chosen (D.Directory.opened directory.old) (D.Directory.serves directory.old result.used.slice result.used.dnn) (D.Directory.takes directory.old result.used.slice result.used.dnn) (answer_of (D.Directory.opened directory.old) (smf_of result.decision)) }
+    ensures unasked { asks_directory (ruling (case_of inquiry.now (S.Store.contexts store.now) (back_off_of controls.now.table.rows.now))) ≡ false → directory.new ≡ directory.old }
+    ensures opening { D.Directory.opened directory.new ≡ D.Directory.opened directory.old }
+    ensures serving { (s n m : ℕ) → D.Directory.serves directory.new s n m ≡ D.Directory.serves directory.old s n m }
+{
+    let context = store.find(inquiry.pdu_session());
+    let used = inquiry.slice_and_dnn(context);
+    match ruling(inquiry, store, controls, context, used) {
+        Ruling::Settled(decision) => Verdict {
+            used,
+            decision,
+            release: None,
+        },
+        Ruling::Choose { emergency, release } => Verdict {
+            used,
+            decision: choose(directory, used, emergency),
+            release,
+        },
+    }
+}
+
+// The verdict on a payload, with all that holds of it. The store is asked what the rules need and no more, and the directory only where
+// they leave it the choice.
+pub fn judge<S: Store, D: Directory>(
+    inquiry: &Inquiry<'_>,
+    store: &S,
+    controls: &ControlTable<'_>,
+    directory: &mut D,
+) -> Verdict
+    ensures judged { Judged (case_of inquiry.now (S.Store.contexts store.now) (back_off_of controls.now.table.rows.now)) (D.Directory.opened directory.old) (D.Directory.serves directory.old) (D.Directory.takes directory.old) result }
+    ensures unasked { asks_directory (ruling (case_of inquiry.now (S.Store.contexts store.now) (back_off_of controls.now.table.rows.now))) ≡ false → directory.new ≡ directory.old }
+    ensures opening { D.Directory.opened directory.new ≡ D.Directory.opened directory.old }
+    ensures serving { (s n m : ℕ) → D.Directory.serves directory.new s n m ≡ D.Directory.serves directory.old s n m }
+{
+    rule(inquiry, store, controls, directory)
+}

@@ -1,0 +1,13 @@
+// What the rules say before any directory is asked.
+use crate::decision::Decision;
+use codes::SmfId;
+
+#[derive(Clone, Copy, Debug, PartialEq, Eq)]
+pub enum Ruling {
+    Settled(Decision),
+    /// A directory has to choose, and the session is released at the SMF that had it.
+    Choose {
+        emergency: bool,
+        release: Option<SmfId>,
+    },
+}
