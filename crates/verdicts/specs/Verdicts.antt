@@ -1,6 +1,8 @@
 -- Verdicts: where a payload goes, for which slice and DNN, and what is released.
 use Rattle.std.specs.Prelude.{ℕ, Bool, true, false, Some, None, Option}
 use Rattle.codes.specs.declared.cause.Cause.TheVariants.{NotForwarded, DnnNotSupported}
+use Rattle.codes.specs.declared.slice_dnn.SliceDnn.{SliceDnn}
+use Rattle.stores.specs.declared.context.Context.{Context}
 use Rattle.verdicts.specs.declared.decision.Decision.{Decision}
 use Rattle.verdicts.specs.declared.decision.Decision.TheVariants.{Forward, Establish, Return}
 use Rattle.verdicts.specs.declared.ruling.Ruling.{Ruling}
@@ -33,3 +35,13 @@ release_of (Choose emergency release) = release
 -- the verdict on a case, with a directory that is open or closed, and the SMF that it chose, if it was asked and chose one
 abbrev pub verdict : Case → Bool → Option ℕ → Verdict
 verdict c opened m = record { used = used c.asked (standing c); decision = decision (ruling c) opened m; release = release_of (ruling c) }
+
+-- the context that a decision establishes for session k of UE u, with this slice and DNN
+abbrev pub established_by : Decision → SliceDnn → ℕ → ℕ → Option Context
+established_by (Forward m) used u k = None
+established_by (Establish m emergency) used u k =
+    Some (record { ue = u; session = k; smf = m; emergency = emergency; slice = used.slice; dnn = used.dnn })
+established_by (Return cause) used u k = None
+
+abbrev pub context_of : Verdict → ℕ → ℕ → Option Context
+context_of v u k = established_by v.decision v.used u k

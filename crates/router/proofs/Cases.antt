@@ -1,0 +1,34 @@
+-- The ten cases, by computation.
+use Rattle.std.proofs.Common.{rules, ◌≡◌, ℕ, true, Some, None, Option, sym, refl, ap, ◌∙◌}
+use Rattle.std.proofs.lemmas.Bool.{eqb-true, false≢true}
+use Rattle.directories.specs.Choices.{Chosen}
+use Rattle.directories.specs.Lines.{lines_serve, takes_first}
+use Rattle.nas.specs.Uplinks.{walk}
+use Rattle.verdicts.specs.Laws.{answer_of}
+use Rattle.verdicts.specs.Rules as given
+use Rattle.router.specs.WorkedHall.{WorkedHall, lines, common}
+
+first_line : (m : Option ℕ) → Chosen true (lines_serve lines common.slice common.dnn) (takes_first lines common.slice common.dnn) (answer_of true m) → m ≡ Some 7
+unfolding takes_first
+first_line None h = absurd (false≢true (sym (h.1 7)))
+first_line (Some m) h = ap Some (sym (eqb-true 7 m h.2))
+
+pub cases : WorkedHall
+unfolding walk given.ruling_with given.awaits_with_emergency given.congestion given.held_off given.at_limit given.barred given.kept_ruling given.known_smf given.emergency_smf_of
+cases = record {
+  chosen = first_line;
+  first = refl;
+  made = refl;
+  unserved = refl;
+  closed = refl;
+  twice = refl;
+  back_again = refl;
+  undone = refl;
+  again = refl;
+  cut = refl;
+  congested = refl;
+  urgent = refl;
+  urgent_answer = refl;
+  standing = refl;
+  full = refl;
+}

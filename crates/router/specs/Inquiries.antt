@@ -1,0 +1,29 @@
+-- What a message asks for: the message as it is judged.
+use Rattle.std.specs.Prelude.{ℕ, cond, List, Some, None, Option, option_map, option_and_then, ◌==◌}
+use Rattle.codes.specs.declared.request_type.RequestType.{RequestType}
+use Rattle.codes.specs.declared.request_type.RequestType.TheVariants.{Initial, Existing, InitialEmergency, ExistingEmergency, Modification}
+use Rattle.names.specs.Names.{number_of}
+use Rattle.nas.specs.Uplinks.{Message}
+use Rattle.records.specs.declared.configuration.Configuration.{Configuration}
+use Rattle.records.specs.Records.{Ue}
+use Rattle.verdicts.specs.Cases.{Asked}
+
+-- the request type of this number
+abbrev pub request_type_of : ℕ → Option RequestType
+request_type_of n =
+    cond (n == 1) (Some Initial)
+    (cond (n == 2) (Some Existing)
+    (cond (n == 3) (Some InitialEmergency)
+    (cond (n == 4) (Some ExistingEmergency)
+    (cond (n == 5) (Some Modification) None))))
+
+-- the DNN goes by its number among these names
+abbrev pub inquiry_of : List (List ℕ) → Configuration → Ue → Message → Asked
+inquiry_of names configuration ue m = record {
+  ue = ue;
+  configuration = configuration;
+  session = m.session;
+  request = option_and_then request_type_of m.request;
+  slice = m.slice;
+  dnn = option_map (number_of names) m.dnn;
+}
