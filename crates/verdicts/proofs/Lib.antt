@@ -1,3 +1,4 @@
 pub mod Halves
 pub mod Ruled
 pub mod Lawful
+pub mod Using

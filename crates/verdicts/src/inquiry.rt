@@ -3,7 +3,7 @@ ghost use Rattle.std.specs.Prelude.{◌≡◌};
 ghost use Rattle.codes.specs.declared.request_type.RequestType.TheVariants.{Initial};
 ghost use Rattle.verdicts.specs.Cases.{asked, requests, for_emergency};
 ghost use Rattle.verdicts.specs.Rules.{held_off, known_smf};
-ghost use Rattle.verdicts.specs.Used.{kept, slice_used, dnn_used, used};
+ghost use Rattle.verdicts.specs.Used.{kept, slice_used, dnn_used, used, Uses};
 
 use codes::{DnnNumber, RequestType, SessionId, SliceCode, SliceDnn, SmfId};
 use records::{Configuration, UeRecord};
@@ -75,8 +75,7 @@ impl<'a> Inquiry<'a> {
             .unwrap_or(self.configuration.default.dnn)
     }
 
-    // The slice and the DNN that a verdict goes by, where the session has this context.
-    pub fn slice_and_dnn(&self, context: Option<Context>) -> SliceDnn
+    fn used(&self, context: Option<Context>) -> SliceDnn
         ensures { result ≡ used (asked self.now) context }
     {
         if self.is_for_emergency() {
@@ -88,6 +87,14 @@ impl<'a> Inquiry<'a> {
             slice,
             dnn: self.dnn_used(kept, slice),
         }
+    }
+
+    // The slice and the DNN that a verdict goes by, where the session has this context.
+    #[tactic(auto, using(crate::proofs::Using::uses))]
+    pub fn slice_and_dnn(&self, context: Option<Context>) -> SliceDnn
+        ensures { Uses (asked self.now) context result }
+    {
+        self.used(context)
     }
 
     // Whether the request is one that congestion holds off.
