@@ -1,5 +1,5 @@
 -- The ten cases, by computation.
-use Rattle.std.proofs.Common.{rules, ◌≡◌, ℕ, true, Some, None, Option, sym, refl, ap, ◌∙◌}
+use Rattle.std.proofs.Common.{◌≡◌, ℕ, true, [], Some, None, Option, sym, refl, ap}
 use Rattle.std.proofs.lemmas.Bool.{eqb-true, false≢true}
 use Rattle.directories.specs.Choices.{Chosen}
 use Rattle.directories.specs.Lines.{lines_serve, takes_first}
@@ -13,14 +13,19 @@ unfolding takes_first
 first_line None h = absurd (false≢true (sym (h.1 7)))
 first_line (Some m) h = ap Some (sym (eqb-true 7 m h.2))
 
+no_line : (m : Option ℕ) → Chosen true (lines_serve [] common.slice common.dnn) (takes_first [] common.slice common.dnn) (answer_of true m) → m ≡ None
+no_line None h = refl
+no_line (Some m) h = absurd (false≢true h.1)
+
 pub cases : WorkedHall
 unfolding walk given.ruling_with given.awaits_with_emergency given.congestion given.held_off given.at_limit given.barred given.kept_ruling given.known_smf given.emergency_smf_of
 cases = record {
   chosen = first_line;
   first = refl;
   made = refl;
+  none_chosen = no_line;
   unserved = refl;
-  closed = refl;
+  closed = λ serves. refl;
   twice = refl;
   back_again = refl;
   undone = refl;

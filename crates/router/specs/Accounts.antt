@@ -1,5 +1,5 @@
 -- The account: which payloads and contexts there have to be after a list of calls, told from the calls alone.
-use Rattle.std.specs.Prelude.{ℕ, ◌+◌, Bool, true, false, cond, not, ◌&&◌, List, [], ◌∷◌, map, length, is_some, Some, None, Ok, Err, Option, Result, option_map, ◌==◌}
+use Rattle.std.specs.Prelude.{ℕ, ◌+◌, Bool, cond, not, ◌&&◌, List, [], ◌∷◌, map, length, is_some, Some, None, Ok, Err, Option, Result, option_map, ◌==◌}
 use Rattle.std.specs.List.{filter, find, list_any}
 use Rattle.codes.specs.declared.cause.Cause.TheVariants.{NotForwarded}
 use Rattle.nas.specs.Returns.{returned}

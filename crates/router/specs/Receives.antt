@@ -1,6 +1,5 @@
 -- Receiving a message: what is handed in, in which order it is checked, and what is answered.
-use Rattle.std.specs.Prelude.{ℕ, ◌+◌, Bool, cond, not, List, [], length, Some, None, Ok, Option, Result, ◌==◌, nat_le, nat_lt}
-use Rattle.codes.specs.declared.cause.Cause.{Cause}
+use Rattle.std.specs.Prelude.{ℕ, ◌+◌, Bool, cond, not, List, [], length, Ok, Option, Result, ◌==◌, nat_le, nat_lt}
 use Rattle.codes.specs.declared.refusal.Refusal.{Refusal}
 use Rattle.codes.specs.declared.refusal.Refusal.TheVariants.{RecordBounds, PoolLength, OutputLength, PairInFlight, FlightsFull, NoRoom, NumbersSpent}
 use Rattle.control.specs.declared.control_key.ControlKey.{ControlKey}
@@ -12,7 +11,6 @@ use Rattle.stores.specs.declared.context.Context.{Context}
 use Rattle.verdicts.specs.declared.decision.Decision.{Decision}
 use Rattle.verdicts.specs.declared.decision.Decision.TheVariants.{Forward, Establish, Return}
 use Rattle.verdicts.specs.declared.verdict.Verdict.{Verdict}
-use Rattle.verdicts.specs.Cases.{Case}
 use Rattle.verdicts.specs.Verdicts.{verdict}
 use Rattle.router.specs.Inquiries.{inquiry_of}
 

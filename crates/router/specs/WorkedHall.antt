@@ -13,7 +13,6 @@ use Rattle.nas.specs.Sample.{sample}
 use Rattle.records.specs.Records.{Ue}
 use Rattle.stores.specs.declared.context.Context.{Context}
 use Rattle.stores.specs.Contexts.{pair_fits}
-use Rattle.verdicts.specs.declared.decision.Decision.{Decision}
 use Rattle.verdicts.specs.declared.decision.Decision.TheVariants.{Establish}
 use Rattle.verdicts.specs.Laws.{answer_of}
 use Rattle.router.specs.Receives.{Opening, Received, Answer, answered, written}
@@ -64,9 +63,9 @@ back end =
 abbrev pub sent : List ℕ → Received
 sent octets = record { ue = ue 15; back_off = no_line; opened = true; serves = lines_serve lines; pool = 32768; output = 4096; octets = octets }
 
--- over a directory that is open or closed, and serves nothing
-abbrev pub over : Bool → Received → Received
-over opened r = record { ue = r.ue; back_off = r.back_off; opened = opened; serves = lines_serve []; pool = r.pool; output = r.output; octets = r.octets }
+-- over another directory
+abbrev pub over : Bool → (ℕ → ℕ → ℕ → Bool) → Received → Received
+over opened serves r = record { ue = r.ue; back_off = r.back_off; opened = opened; serves = serves; pool = r.pool; output = r.output; octets = r.octets }
 
 abbrev pub held_off : Received → Received
 held_off r = record { ue = r.ue; back_off = one_line; opened = r.opened; serves = r.serves; pool = r.pool; output = r.output; octets = r.octets }
@@ -114,10 +113,11 @@ pub record WorkedHall : Type 0 where
   -- 1: the message is forwarded to it under number 1, and a context is made
   pub first : answer_after [] initial (Some 7) ≡ forwarded 1 7 None
   pub made : contexts_in (done (forward ∷ [])) ≡ context 1 7 false common ∷ []
-  -- 2: an open directory has none
-  pub unserved : written_after [] (over true initial) None ≡ Ok (back (0x5B ∷ []))
-  -- 3: the directory is closed
-  pub closed : written_after [] (over false initial) None ≡ Ok (back (0x5A ∷ []))
+  -- 2: a list directory with no lines chooses none
+  pub none_chosen : (m : Option ℕ) → Chosen true (lines_serve [] common.slice common.dnn) (takes_first [] common.slice common.dnn) (answer_of true m) → m ≡ None
+  pub unserved : written_after [] (over true (lines_serve []) initial) None ≡ Ok (back (0x5B ∷ []))
+  -- 3: a directory is closed, whoever serves what in it
+  pub closed : (serves : ℕ → ℕ → ℕ → Bool) → written_after [] (over false serves initial) None ≡ Ok (back (0x5A ∷ []))
   -- 4: the message comes again while the first is in flight
   pub twice : answer_after (forward ∷ []) initial (Some 7) ≡ Err (refusal_number PairInFlight)
   -- 5: the SMF did not take it

@@ -10,6 +10,8 @@ mod dnn_names;
 #[cfg(test)]
 mod messages;
 #[cfg(test)]
+mod payload_verdicts;
+#[cfg(test)]
 mod played_lines;
 #[cfg(test)]
 mod printed_values;
@@ -17,3 +19,5 @@ mod printed_values;
 mod scenario_words;
 #[cfg(test)]
 mod smf_directories;
+#[cfg(test)]
+mod ue_records;

@@ -2,7 +2,7 @@
 use crate::decision::Decision;
 use codes::SmfId;
 
-#[derive(Clone, Copy, Debug, PartialEq, Eq)]
+#[derive(Clone, Copy)]
 pub enum Ruling {
     Settled(Decision),
     /// A directory has to choose, and the session is released at the SMF that had it.
