@@ -10,7 +10,7 @@ use Rattle.verdicts.specs.declared.decision.Decision.TheVariants.{Return}
 use Rattle.verdicts.specs.declared.ruling.Ruling.{Ruling}
 use Rattle.verdicts.specs.declared.ruling.Ruling.TheVariants.{Settled}
 use Rattle.verdicts.specs.Cases.{Asked}
-use Rattle.verdicts.specs.Rules.{awaits_with_emergency, congestion, at_limit, barred, objection, ruling_with, first_ruling, routes, route, unless}
+use Rattle.verdicts.specs.Rules.{awaits_with_emergency, congestion, at_limit, barred, objection, ruling_with, first_ruling, routes, route, emergency_smf_of, unless}
 
 -- the first four rules in a row, by what each of them asks
 go : (b : Bool) (o : Option Cause) (d e : Bool) (r : Ruling) → cond b (Settled (Return NotForwarded)) (cond (is_some o) (Settled (Return (unwrap_or o NotForwarded))) (cond d (Settled (Return MaximumSessions)) (cond e (Settled (Return NotForwarded)) r))) ≡ unless (cond b (Some NotForwarded) (option_or o (cond d (Some MaximumSessions) (cond e (Some NotForwarded) None)))) r
@@ -23,4 +23,4 @@ go false None false false r = refl
 pub halves : (a : Asked) (xs : List Context) (back_off : ControlKey → Option ℕ) (o : Option Context) (u : SliceDnn) → ruling_with a xs back_off o u ≡ unless (objection a xs back_off o u) (route a xs o)
 unfolding ruling_with objection route
 halves a xs back_off o u =
-    go (awaits_with_emergency a xs o) (congestion a back_off u) (at_limit a xs) (barred a o) (first_ruling (routes a xs o))
+    go (awaits_with_emergency a xs o) (congestion a back_off u) (at_limit a xs) (barred a o) (first_ruling (routes a (emergency_smf_of a xs) o))

@@ -22,6 +22,8 @@ use Rattle.verdicts.specs.Rules.{Rule, first_ruling, ruling, ruling_with, routes
 use Rattle.verdicts.specs.Used.{used}
 use Rattle.verdicts.specs.Verdicts.{smf_of, verdict, decision}
 use Rattle.verdicts.specs.Laws.{Judged, asks_directory, answer_of, establishes, StandingSmf, KnownSmf, EmergencySmf, StaticSmf, ServingSmf}
+use Rattle.verdicts.proofs.Alike.{alike}
+use Rattle.verdicts.proofs.Bounded.{smf_above, put_fits}
 use Rattle.verdicts.proofs.Ruled.{Ruled, ruled, one_rule}
 
 -- ---- a message with no request type, of a session that has a context
@@ -151,6 +153,7 @@ module _ (c : Case) (opened : Bool) (serves takes : ℕ → ℕ → ℕ → Bool
       let d : v.decision ≡ decision (ruling c) opened (smf_of v.decision) = ap (λ (w : Verdict). w.decision) e in
       record {
         value = e;
+        set = λ ys s. e ∙ alike c ys opened (smf_of v.decision) s;
         rule = one_rule c;
         choice = h;
         named = named_by (ruling c) l d h;
@@ -159,4 +162,5 @@ module _ (c : Case) (opened : Bool) (serves takes : ℕ → ℕ → ℕ → Bool
         plain = plain_by (ruling c) l d;
         kept = λ x q s. d ∙ ap (λ r. decision r opened (smf_of v.decision)) (goes_on c x q s);
         released = λ m q. l.released m (sym (ap (λ (w : Verdict). w.release) e) ∙ q);
+        bounded = λ n b. put_fits n c serves b v (ap (λ (w : Verdict). w.used) e) (λ m q. smf_above n c serves b opened v.used m (named_by (ruling c) l d h m q));
       }

@@ -2,3 +2,5 @@ pub mod Halves
 pub mod Ruled
 pub mod Lawful
 pub mod Using
+pub mod Alike
+pub mod Bounded

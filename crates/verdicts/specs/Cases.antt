@@ -32,6 +32,10 @@ pub record Case : Type 0 where
 abbrev pub case_of : code.Inquiry → List Context → (ControlKey → Option ℕ) → Case
 case_of q xs b = record { asked = asked q; contexts = xs; back_off = b }
 
+-- the same over other contexts
+abbrev pub over : List Context → Case → Case
+over ys c = record { asked = c.asked; contexts = ys; back_off = c.back_off }
+
 -- the context of the session that is asked for
 abbrev pub standing : Case → Option Context
 standing c = lookup c.contexts c.asked.ue.number c.asked.session

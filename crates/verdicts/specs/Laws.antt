@@ -1,5 +1,5 @@
 -- What holds of every verdict, in words other than the rules'.
-use Rattle.std.specs.Prelude.{◌≡◌, ℕ, Bool, true, false, ◌⊎◌, ◌↔◌, List, Some, None, Ok, Err, Option, Result, option_map, ◌==◌}
+use Rattle.std.specs.Prelude.{◌≡◌, ℕ, ◌≤◌, Bool, true, false, ◌⊎◌, ◌↔◌, List, Some, None, Ok, Err, Option, Result, option_map, ◌==◌}
 use Rattle.std.specs.List.{find, list_any}
 use Rattle.codes.specs.declared.cause.Cause.{Cause}
 use Rattle.codes.specs.declared.cause.Cause.TheVariants.{DnnNotSupported}
@@ -9,17 +9,19 @@ use Rattle.codes.specs.Causes.{back_off_octet}
 use Rattle.directories.specs.declared.no_smf.NoSmf.{NoSmf}
 use Rattle.directories.specs.declared.no_smf.NoSmf.TheVariants.{Closed, NoneServes}
 use Rattle.directories.specs.Choices.{Chosen}
-use Rattle.records.specs.Configurations.{emergency_smf}
+use Rattle.codes.specs.Sessions.{session_fits}
+use Rattle.records.specs.Configurations.{configuration_fits, emergency_smf}
+use Rattle.records.specs.Records.{record_fits}
 use Rattle.stores.specs.declared.context.Context.{Context}
-use Rattle.stores.specs.Contexts.{lookup, emergency_at}
+use Rattle.stores.specs.Contexts.{fits, lookup, emergency_at}
 use Rattle.verdicts.specs.declared.decision.Decision.{Decision}
 use Rattle.verdicts.specs.declared.decision.Decision.TheVariants.{Forward, Establish, Return}
 use Rattle.verdicts.specs.declared.ruling.Ruling.{Ruling}
 use Rattle.verdicts.specs.declared.ruling.Ruling.TheVariants.{Settled, Choose}
 use Rattle.verdicts.specs.declared.verdict.Verdict.{Verdict}
-use Rattle.verdicts.specs.Cases.{Case, standing, requests}
+use Rattle.verdicts.specs.Cases.{Case, over, standing, requests}
 use Rattle.verdicts.specs.Rules.{Rule, rules, ruling, smf_in}
-use Rattle.verdicts.specs.Verdicts.{smf_of, verdict}
+use Rattle.verdicts.specs.Verdicts.{smf_of, context_of, verdict}
 
 -- a directory has to choose
 abbrev pub asks_directory : Ruling → Bool
@@ -65,11 +67,25 @@ StaticSmf c m = emergency_smf c.asked.configuration ≡ Some m
 abbrev pub ServingSmf : Bool → (ℕ → ℕ → ℕ → Bool) → SliceDnn → ℕ → Type 0
 ServingSmf opened serves u m = (opened ≡ true) × (serves u.slice u.dnn m ≡ true)
 
+-- ---- bounds
+
+-- Everything that is told and that stands is in bounds: the book has n names.
+pub record InBounds (n : ℕ) (c : Case) (serves : ℕ → ℕ → ℕ → Bool) : Type 0 where
+  pub few : n ≤ 64
+  pub told : record_fits n c.asked.ue ≡ true
+  pub core : configuration_fits n c.asked.configuration ≡ true
+  pub session : session_fits c.asked.session ≡ true
+  pub named : (d : ℕ) → c.asked.dnn ≡ Some d → d ≤ n
+  pub contexts : (u k : ℕ) (x : Context) → lookup c.contexts u k ≡ Some x → fits x ≡ true
+  pub identified : (s d : ℕ) → serves s d 0 ≡ false
+
 -- ---- all that holds of the verdict v on a case, where the directory is open or closed and has these SMFs
 
 pub record Judged (c : Case) (opened : Bool) (serves takes : ℕ → ℕ → ℕ → Bool) (v : Verdict) : Type 0 where
   -- it is the one that the rules give
   pub value : v ≡ verdict c opened (smf_of v.decision)
+  -- the contexts count only by what each session of each UE looks up to, so in whatever order they are kept
+  pub set : (ys : List Context) → ((u k : ℕ) → lookup ys u k ≡ lookup c.contexts u k) → v ≡ verdict (over ys c) opened (smf_of v.decision)
   -- one rule decides
   pub rule : OneRule (rules c) (ruling c)
   -- the directory's choice is right
@@ -86,3 +102,5 @@ pub record Judged (c : Case) (opened : Bool) (serves takes : ℕ → ℕ → ℕ
   pub kept : (x : Context) → c.asked.request ≡ None → standing c ≡ Some x → v.decision ≡ Forward x.smf
   -- a session is released only for an initial request, at the SMF that had it
   pub released : (m : ℕ) → v.release ≡ Some m → (requests Initial c.asked ≡ true) × StandingSmf c m
+  -- where all is in bounds, so is the context that is to be put
+  pub bounded : (n : ℕ) → InBounds n c serves → (x : Context) → context_of v c.asked.ue.number c.asked.session ≡ Some x → fits x ≡ true

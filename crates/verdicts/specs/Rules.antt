@@ -100,9 +100,10 @@ pub record Rule : Type 0 where
 abbrev pub none : Option Context → Bool
 none o = not (is_some o)
 
--- where a payload goes unless it goes back by one of the first four rules
-abbrev pub routes : Asked → List Context → Option Context → List Rule
-routes a xs o =
+-- Where a payload goes unless it goes back by one of the first four rules. The SMF for an emergency session is emergency, if there is
+-- one without asking a directory.
+abbrev pub routes : Asked → Option ℕ → Option Context → List Rule
+routes a emergency o =
     -- 5: a context stands, and the request is not initial
     record { applies = is_some o && not (requests Initial a); ruling = kept_ruling a o } ∷
     -- 6: an initial request; a context that stands is released
@@ -110,7 +111,7 @@ routes a xs o =
     -- 7: an existing request with no context
     record { applies = none o && requests Existing a; ruling = established false (known_smf a) } ∷
     -- 8: an initial emergency request with no context
-    record { applies = none o && requests InitialEmergency a; ruling = or_choice (emergency_smf_of a xs) } ∷
+    record { applies = none o && requests InitialEmergency a; ruling = or_choice emergency } ∷
     -- 9: an existing emergency request with no context
     record { applies = none o && requests ExistingEmergency a; ruling = established true (known_dnn a.ue a.configuration.emergency.dnn) } ∷
     -- 10: no context, and no request type or a modification
@@ -128,7 +129,7 @@ rules_with a xs back_off o u =
     -- 4: an existing request, of a context that may not be moved here
     record { applies = barred a o; ruling = Settled (Return NotForwarded) } ∷
     -- 5 to 10
-    routes a xs o
+    routes a (emergency_smf_of a xs) o
 
 abbrev pub rules : Case → List Rule
 rules c =
@@ -157,7 +158,7 @@ objection a xs back_off o u =
     (cond (barred a o) (Some NotForwarded) None)))
 
 unfoldable pub route : Asked → List Context → Option Context → Ruling
-route a xs o = first_ruling (routes a xs o)
+route a xs o = first_ruling (routes a (emergency_smf_of a xs) o)
 
 abbrev pub unless : Option Cause → Ruling → Ruling
 unless None r = r
