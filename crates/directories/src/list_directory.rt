@@ -50,13 +50,15 @@ impl Directory for ListDirectory {
 
     ghost takes = { λ d s n m. takes_first d.lines.items s n m };
 
+    ghost turned = { λ d s n r e. e.lines.items ≡ d.lines.items };
+
     #[tactic(auto, using(crate::proofs::Firsts::first_chosen))]
     fn choose(&mut self, wanted: SliceDnn) -> Result<SmfId, NoSmf>
         ensures choice { Chosen true (lines_serve self.old.lines.items wanted.slice wanted.dnn) (takes_first self.old.lines.items wanted.slice wanted.dnn) result }
         ensures opening { true ≡ true }
         ensures serving { (s n m : ℕ) → lines_serve self.new.lines.items s n m ≡ lines_serve self.old.lines.items s n m }
         ensures first { TakenFirst self.old.lines.items wanted.slice wanted.dnn result }
-        ensures same { self.new.lines.items ≡ self.old.lines.items }
+        ensures turn { self.new.lines.items ≡ self.old.lines.items }
     {
         self.lines
             .iter()

@@ -117,6 +117,8 @@ impl Directory for TurningDirectory {
 
     ghost takes = { λ d s n m. takes_next d.sets.items d.last s n m };
 
+    ghost turned = { λ d s n r e. Turned (sets_serve d.sets.items s n) d.last e.last r };
+
     #[tactic(auto, using(crate::specs::SetLaws::turn_to))]
     fn choose(&mut self, wanted: SliceDnn) -> Result<SmfId, NoSmf>
         ensures choice { Chosen self.old.is_open (sets_serve self.old.sets.items wanted.slice wanted.dnn) (takes_next self.old.sets.items self.old.last wanted.slice wanted.dnn) result }

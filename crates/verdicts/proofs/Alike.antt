@@ -11,12 +11,12 @@ use Rattle.stores.specs.declared.context.Context.{Context}
 use Rattle.stores.specs.Contexts.{lookup, others_of, lowest_emergency, is_emergency, sessions}
 use Rattle.verdicts.specs.declared.decision.Decision.TheVariants.{Return}
 use Rattle.verdicts.specs.declared.ruling.Ruling.{Ruling}
-use Rattle.verdicts.specs.declared.ruling.Ruling.TheVariants.{Settled}
+use Rattle.verdicts.specs.Rulings.{settled}
 use Rattle.verdicts.specs.Cases.{Asked, Case, over, standing, requests}
 use Rattle.verdicts.specs.Rules as given
 use Rattle.verdicts.specs.Rules.{ruling_with, first_ruling, smf_in, ruling}
 use Rattle.verdicts.specs.Used.{used}
-use Rattle.verdicts.specs.Verdicts.{verdict, decision, release_of}
+use Rattle.verdicts.specs.Verdicts.{verdict, decision}
 
 module _ (xs ys : List Context) (h : (u k : ℕ) → lookup xs u k ≡ lookup ys u k) (a : Asked) where
   lowest : lowest_emergency xs a.ue.number a.session ≡ lowest_emergency ys a.ue.number a.session
@@ -42,7 +42,7 @@ module _ (xs ys : List Context) (h : (u k : ℕ) → lookup xs u k ≡ lookup ys
   -- the rules with these three in them
   abbrev first_with : Bool → Bool → Option ℕ → (ControlKey → Option ℕ) → Option Context → SliceDnn → Ruling
   first_with b d m back_off o u =
-      first_ruling (record { applies = b; ruling = Settled (Return NotForwarded) } ∷ record { applies = is_some (given.congestion a back_off u); ruling = Settled (Return (unwrap_or (given.congestion a back_off u) NotForwarded)) } ∷ record { applies = d; ruling = Settled (Return MaximumSessions) } ∷ record { applies = given.barred a o; ruling = Settled (Return NotForwarded) } ∷ given.routes a m o)
+      first_ruling (record { applies = b; ruling = settled (Return NotForwarded) } ∷ record { applies = is_some (given.congestion a back_off u); ruling = settled (Return (unwrap_or (given.congestion a back_off u) NotForwarded)) } ∷ record { applies = d; ruling = settled (Return MaximumSessions) } ∷ record { applies = given.barred a o; ruling = settled (Return NotForwarded) } ∷ given.routes a m o)
 
   same_ruling : (back_off : ControlKey → Option ℕ) (o : Option Context) (u : SliceDnn) → ruling_with a xs back_off o u ≡ ruling_with a ys back_off o u
   unfolding ruling_with
@@ -53,4 +53,4 @@ alike c ys opened m h =
     let a = c.asked in
     let o : standing c ≡ standing (over ys c) = sym (h a.ue.number a.session) in
     let r : ruling c ≡ ruling (over ys c) = same_ruling c.contexts ys (λ u k. sym (h u k)) a c.back_off (standing c) (used a (standing c)) ∙ (λ i. ruling_with a ys c.back_off (o i) (used a (o i))) in
-    λ i. record { used = used a (o i); decision = decision (r i) opened m; release = release_of (r i) }
+    λ i. record { used = used a (o i); decision = decision (r i).outcome opened m; release = (r i).release }

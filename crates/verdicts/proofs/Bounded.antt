@@ -57,11 +57,11 @@ module _ (n : ℕ) (c : Case) (serves : ℕ → ℕ → ℕ → Bool) (b : InBou
   Lines = (list_all (subscription_fits n) c.asked.ue.subscriptions ≡ true) × (list_all (known_fits n) c.asked.ue.known ≡ true)
 
   number_fits : ltb 0 c.asked.ue.number ≡ true
-  number_fits = (and_parts _ _ b.told).0
+  number_fits = (and_parts _ _ b.record_in).0
 
   lines : Lines
   lines =
-      let p = (and_parts (ltb 0 c.asked.ue.number) _ b.told).1 in
+      let p = (and_parts (ltb 0 c.asked.ue.number) _ b.record_in).1 in
       let q = (and_parts (session_fits c.asked.ue.session_limit) _ p).1 in
       let r = (and_parts (leb (length c.asked.ue.subscriptions) 32) _ q).1 in
       let s = (and_parts (leb (length c.asked.ue.known) 15) _ r).1 in
@@ -75,7 +75,7 @@ module _ (n : ℕ) (c : Case) (serves : ℕ → ℕ → ℕ → Bool) (b : InBou
       go : (o : Option Context) → lookup c.contexts u k ≡ o → smf_in o ≡ Some m → ltb 0 m ≡ true
       go None f q = search rules
       go (Some x) f q =
-          subst (λ i. ltb 0 i ≡ true) (ap (λ (o : Option ℕ). unwrap_or o 0) q) (and_parts (ltb 0 x.smf) (ltb x.dnn 65) (and_parts (pair_fits x.ue x.session) (ltb 0 x.smf && ltb x.dnn 65) (b.contexts u k x f)).1).0
+          subst (λ i. ltb 0 i ≡ true) (ap (λ (o : Option ℕ). unwrap_or o 0) q) (and_parts (ltb 0 x.smf) (ltb x.dnn 65) (and_parts (pair_fits x.ue x.session) (ltb 0 x.smf && ltb x.dnn 65) (b.contexts_in u k x f)).1).0
 
   static_smf : (m : ℕ) → StaticSmf c m → ltb 0 m ≡ true
   static_smf m e = go (ltb 0 c.asked.configuration.static_emergency_smf) refl e
@@ -98,7 +98,7 @@ module _ (n : ℕ) (c : Case) (serves : ℕ → ℕ → ℕ → Bool) (b : InBou
   -- ---- DNN numbers
 
   named_below : (x : ℕ) → c.asked.dnn ≡ Some x → ltb x 65 ≡ true
-  named_below x e = let h = b.named x e in let g = b.few in search rules
+  named_below x e = let h = b.dnn_in x e in let g = b.book_in in search rules
 
   held_below : (x : ℕ) → option_map (λ o. o.dnn) (kept c.asked (standing c)) ≡ Some x → ltb x 65 ≡ true
   held_below x e = go (requests Initial c.asked) (standing c) refl e
@@ -107,7 +107,7 @@ module _ (n : ℕ) (c : Case) (serves : ℕ → ℕ → ℕ → Bool) (b : InBou
       go true o f q = search rules
       go false None f q = search rules
       go false (Some y) f q =
-          subst (λ i. ltb i 65 ≡ true) (ap (λ (o : Option ℕ). unwrap_or o 0) q) (and_parts (ltb 0 y.smf) (ltb y.dnn 65) (and_parts (pair_fits y.ue y.session) (ltb 0 y.smf && ltb y.dnn 65) (b.contexts c.asked.ue.number c.asked.session y f)).1).1
+          subst (λ i. ltb i 65 ≡ true) (ap (λ (o : Option ℕ). unwrap_or o 0) q) (and_parts (ltb 0 y.smf) (ltb y.dnn 65) (and_parts (pair_fits y.ue y.session) (ltb 0 y.smf && ltb y.dnn 65) (b.contexts_in c.asked.ue.number c.asked.session y f)).1).1
 
   line_below : (s x : ℕ) → default_dnn c.asked.ue s ≡ Some x → ltb x 65 ≡ true
   line_below s x e = go (find (λ l. l.default_dnn && eqb l.slice s) c.asked.ue.subscriptions) refl e
@@ -115,17 +115,17 @@ module _ (n : ℕ) (c : Case) (serves : ℕ → ℕ → ℕ → Bool) (b : InBou
       go : (o : Option SubscriptionLine) → find (λ l. l.default_dnn && eqb l.slice s) c.asked.ue.subscriptions ≡ o → option_map (λ l. l.dnn) o ≡ Some x → ltb x 65 ≡ true
       go None f q = search rules
       go (Some l) f q =
-          subst (λ i. ltb i 65 ≡ true) (ap (λ (o : Option ℕ). unwrap_or o 0) q) (in_octet n l.dnn b.few (found_passes (subscription_fits n) (λ l. l.default_dnn && eqb l.slice s) c.asked.ue.subscriptions l lines.0 f))
+          subst (λ i. ltb i 65 ≡ true) (ap (λ (o : Option ℕ). unwrap_or o 0) q) (in_octet n l.dnn b.book_in (found_passes (subscription_fits n) (λ l. l.default_dnn && eqb l.slice s) c.asked.ue.subscriptions l lines.0 f))
 
   dnn_below : ltb (used c.asked (standing c)).dnn 65 ≡ true
   dnn_below = go (for_emergency c.asked)
     where
       core : (in_book n c.asked.configuration.default.dnn ≡ true) × (in_book n c.asked.configuration.emergency.dnn ≡ true)
-      core = and_parts (in_book n c.asked.configuration.default.dnn) (in_book n c.asked.configuration.emergency.dnn) b.core
+      core = and_parts (in_book n c.asked.configuration.default.dnn) (in_book n c.asked.configuration.emergency.dnn) b.configuration_in
 
       go : (d : Bool) → ltb (cond d c.asked.configuration.emergency (common_used c.asked (kept c.asked (standing c)))).dnn 65 ≡ true
-      go true = in_octet n c.asked.configuration.emergency.dnn b.few core.1
-      go false = first_below c.asked.dnn (option_map (λ o. o.dnn) (kept c.asked (standing c))) (default_dnn c.asked.ue (slice_used c.asked (kept c.asked (standing c)))) c.asked.configuration.default.dnn named_below held_below (line_below (slice_used c.asked (kept c.asked (standing c)))) (in_octet n c.asked.configuration.default.dnn b.few core.0)
+      go true = in_octet n c.asked.configuration.emergency.dnn b.book_in core.1
+      go false = first_below c.asked.dnn (option_map (λ o. o.dnn) (kept c.asked (standing c))) (default_dnn c.asked.ue (slice_used c.asked (kept c.asked (standing c)))) c.asked.configuration.default.dnn named_below held_below (line_below (slice_used c.asked (kept c.asked (standing c)))) (in_octet n c.asked.configuration.default.dnn b.book_in core.0)
 
   -- ---- the context
 
@@ -137,5 +137,5 @@ module _ (n : ℕ) (c : Case) (serves : ℕ → ℕ → ℕ → Bool) (b : InBou
       go (Return cause) f z = search rules
       go (Establish m emergency) f z =
           let below : ltb v.used.dnn 65 ≡ true = ap (λ (w : SliceDnn). ltb w.dnn 65) e ∙ dnn_below in
-          let pair : pair_fits c.asked.ue.number c.asked.session ≡ true = and_from _ _ number_fits b.session in
+          let pair : pair_fits c.asked.ue.number c.asked.session ≡ true = and_from _ _ number_fits b.session_in in
           ap (λ (o : Option Context). fits (unwrap_or o x)) (sym z) ∙ and_from _ _ pair (and_from _ _ (h m (ap smf_of f)) below)

@@ -6,10 +6,10 @@ use Rattle.std.proofs.lemmas.List.Folds.{list_any_at}
 use Rattle.tables.proofs.Lists.{passes_at}
 use Rattle.std.proofs.lemmas.Bool.{and_parts, eq-eqb, false≢true}
 use Rattle.codes.specs.declared.cause.Cause.{Cause}
-use Rattle.codes.specs.declared.cause.Cause.TheVariants.{Congestion, SliceAndDnnCongestion, SliceCongestion, NotForwarded, MaximumSessions, DnnNotSupported}
+use Rattle.codes.specs.declared.cause.Cause.TheVariants.{Congestion, SliceAndDnnCongestion, SliceCongestion, NotForwarded, MaximumSessions}
 use Rattle.codes.specs.declared.request_type.RequestType.{RequestType}
 use Rattle.codes.specs.declared.request_type.RequestType.TheVariants.{Initial, Existing, InitialEmergency, ExistingEmergency, Modification}
-use Rattle.codes.specs.Causes.{back_off_octet}
+use Rattle.codes.specs.Causes.{cause_number, back_off_octet}
 use Rattle.codes.specs.declared.slice_dnn.SliceDnn.{SliceDnn}
 use Rattle.control.specs.declared.control_key.ControlKey.TheVariants.{Dnn, SliceAndDnn, Slice}
 use Rattle.records.specs.declared.known_line.KnownLine.{KnownLine}
@@ -17,18 +17,21 @@ use Rattle.records.specs.Configurations.{emergency_smf}
 use Rattle.records.specs.Firsts.{known_session, known_dnn}
 use Rattle.stores.specs.declared.context.Context.{Context}
 use Rattle.stores.specs.Contexts.{lookup, emergency_at, lowest_emergency, sessions}
+use Rattle.verdicts.specs.declared.outcome.Outcome.{Outcome}
+use Rattle.verdicts.specs.declared.outcome.Outcome.TheVariants.{Settled, Choose}
 use Rattle.verdicts.specs.declared.ruling.Ruling.{Ruling}
-use Rattle.verdicts.specs.declared.ruling.Ruling.TheVariants.{Settled, Choose}
+use Rattle.verdicts.specs.Rulings.{only, settled}
+use Rattle.verdicts.specs.declared.decision.Decision.{Decision}
 use Rattle.verdicts.specs.declared.decision.Decision.TheVariants.{Forward, Establish, Return}
 use Rattle.verdicts.specs.Used.{used}
-use Rattle.verdicts.specs.Verdicts.{smf_of, release_of}
+use Rattle.verdicts.specs.Verdicts.{smf_of, cause_of, octet_of, establishes}
 use Rattle.codes.specs.RequestTypes.{request_number}
 use Rattle.verdicts.specs.Rules.{smf_in}
 use Rattle.verdicts.specs.Cases.{for_emergency}
 use Rattle.verdicts.specs.Cases.{Case, standing, requests, request_code}
 use Rattle.verdicts.specs.Rules as given
 use Rattle.verdicts.specs.Rules.{Rule, routes, first_ruling, ruling, ruling_with, rules_with}
-use Rattle.verdicts.specs.Laws.{OneRule, establishes, StandingSmf, KnownSmf, EmergencySmf, StaticSmf}
+use Rattle.verdicts.specs.Laws.{OneRule, StandingSmf, KnownSmf, EmergencySmf, StaticSmf}
 
 -- ---- the first rule that applies
 
@@ -81,30 +84,40 @@ and_false : (b : Bool) → (b && false) ≡ false
 and_false true = refl
 and_false false = refl
 
-by_line : (b : Bool) (x y z : Option ℕ) (cause : Cause) → Some cause ≡ cond b (option_or (option_map Congestion x) (option_or (option_map SliceAndDnnCongestion y) (option_map SliceCongestion z))) None → cause ≡ DnnNotSupported → ⊥
-by_line false x y z cause e q = search rules
-by_line true (Some x) y z cause e q = search rules
-by_line true None (Some y) z cause e q = search rules
-by_line true None None (Some z) cause e q = search rules
-by_line true None None None cause e q = search rules
+numbered : {cause other : Cause} → Some cause ≡ Some other → eqb (cause_number cause) 91 ≡ eqb (cause_number other) 91
+numbered {cause} {other} e = ap (λ (o : Option Cause). eqb (cause_number (unwrap_or o cause)) 91) e
+
+by_line : (b : Bool) (x y z : Option ℕ) (cause : Cause) → Some cause ≡ cond b (option_or (option_map Congestion x) (option_or (option_map SliceAndDnnCongestion y) (option_map SliceCongestion z))) None → eqb (cause_number cause) 91 ≡ false
+by_line false x y z cause e = search rules
+by_line true (Some x) y z cause e = numbered e
+by_line true None (Some y) z cause e = numbered e
+by_line true None None (Some z) cause e = numbered e
+by_line true None None None cause e = search rules
 
 -- ---- what holds of each ruling
 
--- the SMF of a ruling that needs no directory
-abbrev pub settled_smf : Ruling → Option ℕ
-settled_smf (Settled d) = smf_of d
-settled_smf (Choose emergency release) = None
+pub not_91 : (n : ℕ) → eqb n 91 ≡ false → Some n ≡ Some 91 → ⊥
+not_91 n d e = absurd (false≢true (sym d ∙ eq-eqb n 91 (ap (λ (o : Option ℕ). unwrap_or o 0) e)))
 
-abbrev pub may_establish : Ruling → Bool
+-- what f says of a decision that needs no directory
+abbrev pub told : (Decision → Option ℕ) → Outcome → Option ℕ
+told f (Settled d) = f d
+told f (Choose emergency) = None
+
+abbrev pub may_establish : Outcome → Bool
 may_establish (Settled d) = establishes d
-may_establish (Choose emergency release) = true
+may_establish (Choose emergency) = true
+
+-- the SMF has the session, or a known line, another emergency context or the configuration names it
+abbrev pub Told : Case → ℕ → Type 0
+Told c m = StandingSmf c m ⊎ (KnownSmf c m ⊎ (EmergencySmf c m ⊎ StaticSmf c m))
 
 pub record Ruled (c : Case) (r : Ruling) : Type 0 where
-  pub named : (m : ℕ) → settled_smf r ≡ Some m → StandingSmf c m ⊎ (KnownSmf c m ⊎ (EmergencySmf c m ⊎ StaticSmf c m))
-  pub supported : r ≡ Settled (Return DnnNotSupported) → ⊥
-  pub priority : c.asked.ue.high_priority ≡ true → (cause : Cause) → r ≡ Settled (Return cause) → back_off_octet cause ≡ None
-  pub plain : c.asked.request ≡ None → may_establish r ≡ false
-  pub released : (m : ℕ) → release_of r ≡ Some m → (requests Initial c.asked ≡ true) × StandingSmf c m
+  pub named : (m : ℕ) → told smf_of r.outcome ≡ Some m → Told c m
+  pub supported : told cause_of r.outcome ≡ Some 91 → ⊥
+  pub priority : c.asked.ue.high_priority ≡ true → told octet_of r.outcome ≡ None
+  pub untyped : c.asked.request ≡ None → may_establish r.outcome ≡ false
+  pub released : (m : ℕ) → r.release ≡ Some m → (requests Initial c.asked ≡ true) × StandingSmf c m
 
 -- what each rule of a list rules where it applies
 abbrev Each : Case → List Rule → Type 0
@@ -113,17 +126,17 @@ Each c (r ∷ rs) = (r.applies ≡ true → Ruled c r.ruling) × Each c rs
 
 module _ (c : Case) where
   -- a cause that carries no back-off octet, and is none of a directory's
-  returned : (cause : Cause) → back_off_octet cause ≡ None → (cause ≡ DnnNotSupported → ⊥) → Ruled c (Settled (Return cause))
+  returned : (cause : Cause) → back_off_octet cause ≡ None → eqb (cause_number cause) 91 ≡ false → Ruled c (settled (Return cause))
   returned cause b d = record {
     named = λ m e. search rules;
-    supported = λ e. search rules;
-    priority = λ h x e. search rules;
-    plain = λ e. refl;
+    supported = λ e. not_91 (cause_number cause) d e;
+    priority = λ h. b;
+    untyped = λ e. refl;
     released = λ m e. search rules;
   }
 
   in_list : (rs : List Rule) → Each c rs → Ruled c (first_ruling rs)
-  in_list [] e = returned NotForwarded refl (λ q. search rules)
+  in_list [] e = returned NotForwarded refl refl
   in_list (r ∷ rs) e = go r.applies refl (in_list rs e.1)
     where
       go : (b : Bool) → r.applies ≡ b → Ruled c (first_ruling rs) → Ruled c (cond b r.ruling (first_ruling rs))
@@ -131,7 +144,7 @@ module _ (c : Case) where
       go false q rest = rest
 
   -- where the request has a type, there is no law of requests that have none
-  typed : (t : RequestType) → requests t c.asked ≡ true → (r : Ruling) → c.asked.request ≡ None → may_establish r ≡ false
+  typed : (t : RequestType) → requests t c.asked ≡ true → (r : Outcome) → c.asked.request ≡ None → may_establish r ≡ false
   typed t e r q = go t (sym e ∙ ap (λ o. eqb (request_code o) (request_number t)) q)
     where
       go : (t : RequestType) → true ≡ eqb 0 (request_number t) → may_establish r ≡ false
@@ -142,13 +155,23 @@ module _ (c : Case) where
       go Modification z = absurd (false≢true (sym z))
 
   -- a payload that goes to m, for which a context is put
-  established : (t : RequestType) (emergency : Bool) (m : ℕ) → requests t c.asked ≡ true → StandingSmf c m ⊎ (KnownSmf c m ⊎ (EmergencySmf c m ⊎ StaticSmf c m)) → Ruled c (Settled (Establish m emergency))
+  established : (t : RequestType) (emergency : Bool) (m : ℕ) → requests t c.asked ≡ true → Told c m → Ruled c (settled (Establish m emergency))
   established t emergency m q h = record {
-    named = λ n e. subst (λ z. StandingSmf c z ⊎ (KnownSmf c z ⊎ (EmergencySmf c z ⊎ StaticSmf c z))) (search rules) h;
+    named = λ n e. subst (Told c) (ap (λ (o : Option ℕ). unwrap_or o 0) e) h;
     supported = λ e. search rules;
-    priority = λ p x e. search rules;
-    plain = typed t q (Settled (Establish m emergency));
+    priority = λ p. refl;
+    untyped = typed t q (Settled (Establish m emergency));
     released = λ n e. search rules;
+  }
+
+  -- a choice by a directory, with what is released
+  chooses : (t : RequestType) (emergency : Bool) (o : Option ℕ) → requests t c.asked ≡ true → ((m : ℕ) → o ≡ Some m → (requests Initial c.asked ≡ true) × StandingSmf c m) → Ruled c (record { outcome = Choose emergency; release = o })
+  chooses t emergency o q h = record {
+    named = λ m z. search rules;
+    supported = λ z. search rules;
+    priority = λ p. refl;
+    untyped = typed t q (Choose emergency);
+    released = h;
   }
 
   congestion_is : (u : SliceDnn) → given.congestion c.asked c.back_off u ≡ cond (given.held_off c.asked) (given.control_cause c.back_off u) None
@@ -160,13 +183,13 @@ module _ (c : Case) where
   high h = ap (λ b. (requests Initial c.asked || (requests Existing c.asked || requests Modification c.asked)) && not b) h ∙ and_false _
 
   -- 2: congestion
-  congested : (u : SliceDnn) (o : Option Cause) → o ≡ given.congestion c.asked c.back_off u → is_some o ≡ true → Ruled c (Settled (Return (unwrap_or o NotForwarded)))
+  congested : (u : SliceDnn) (o : Option Cause) → o ≡ given.congestion c.asked c.back_off u → is_some o ≡ true → Ruled c (settled (Return (unwrap_or o NotForwarded)))
   congested u None e s = absurd (false≢true s)
   congested u (Some cause) e s = record {
     named = λ m q. search rules;
-    supported = λ q. by_line (given.held_off c.asked) (c.back_off (Dnn u.dnn)) (c.back_off (SliceAndDnn u.slice u.dnn)) (c.back_off (Slice u.slice)) cause (e ∙ congestion_is u) (search rules);
-    priority = λ h x q. absurd (held (given.held_off c.asked) (e ∙ congestion_is u) (high h));
-    plain = λ q. refl;
+    supported = λ q. not_91 (cause_number cause) (by_line (given.held_off c.asked) (c.back_off (Dnn u.dnn)) (c.back_off (SliceAndDnn u.slice u.dnn)) (c.back_off (Slice u.slice)) cause (e ∙ congestion_is u)) q;
+    priority = λ h. absurd (held (given.held_off c.asked) (e ∙ congestion_is u) (high h));
+    untyped = λ q. refl;
     released = λ m q. search rules;
   }
     where
@@ -175,49 +198,33 @@ module _ (c : Case) where
       held false q z = search rules
 
   -- 5: a context stands
-  kept : (o : Option Context) → standing c ≡ o → Ruled c (given.kept_ruling c.asked o)
-  unfolding given.kept_ruling
-  kept None e = returned NotForwarded refl (λ q. search rules)
+  kept : (o : Option Context) → standing c ≡ o → Ruled c (only (given.kept_outcome c.asked o))
+  unfolding given.kept_outcome
+  kept None e = returned NotForwarded refl refl
   kept (Some x) e = go (for_emergency c.asked) x.emergency
     where
-      forwarded : Ruled c (Settled (Forward x.smf))
+      forwarded : Ruled c (settled (Forward x.smf))
       forwarded = record {
         named = λ m q. inl (ap smf_in e ∙ q);
         supported = λ q. search rules;
-        priority = λ h y q. search rules;
-        plain = λ q. refl;
+        priority = λ h. refl;
+        untyped = λ q. refl;
         released = λ m q. search rules;
       }
 
-      go : (b d : Bool) → Ruled c (cond b (Settled (cond d (Forward x.smf) (Return NotForwarded))) (Settled (Forward x.smf)))
+      go : (b d : Bool) → Ruled c (only (cond b (Settled (cond d (Forward x.smf) (Return NotForwarded))) (Settled (Forward x.smf))))
       go true true = forwarded
-      go true false = returned NotForwarded refl (λ q. search rules)
+      go true false = returned NotForwarded refl refl
       go false d = forwarded
 
-  -- 6: the directory chooses
-  chooses : requests Initial c.asked ≡ true → Ruled c (Choose false (smf_in (standing c)))
-  chooses e = record {
-    named = λ m q. search rules;
-    supported = λ q. search rules;
-    priority = λ h y q. search rules;
-    plain = typed Initial e (Choose false (smf_in (standing c)));
-    released = λ m q. (e, q);
-  }
-
   -- 7 and 9: a known line
-  known : (t : RequestType) (emergency : Bool) → requests t c.asked ≡ true → (o : Option ℕ) → ((m : ℕ) → o ≡ Some m → KnownSmf c m) → Ruled c (given.established emergency o)
-  known t emergency q None h = returned NotForwarded refl (λ z. search rules)
+  known : (t : RequestType) (emergency : Bool) → requests t c.asked ≡ true → (o : Option ℕ) → ((m : ℕ) → o ≡ Some m → KnownSmf c m) → Ruled c (only (given.established emergency o))
+  known t emergency q None h = returned NotForwarded refl refl
   known t emergency q (Some m) h = established t emergency m q (inr (inl (h m refl)))
 
   -- 8: another emergency session, the static SMF or the directory
-  urgent : requests InitialEmergency c.asked ≡ true → (o : Option ℕ) → ((m : ℕ) → o ≡ Some m → EmergencySmf c m ⊎ StaticSmf c m) → Ruled c (given.or_choice o)
-  urgent q None h = record {
-    named = λ m z. search rules;
-    supported = λ z. search rules;
-    priority = λ p y z. search rules;
-    plain = typed InitialEmergency q (Choose true None);
-    released = λ m z. search rules;
-  }
+  urgent : requests InitialEmergency c.asked ≡ true → (o : Option ℕ) → ((m : ℕ) → o ≡ Some m → EmergencySmf c m ⊎ StaticSmf c m) → Ruled c (only (given.or_choice o))
+  urgent q None h = chooses InitialEmergency true None q (λ m z. search rules)
   urgent q (Some m) h = established InitialEmergency true m q (inr (inr (h m refl)))
 
   -- the SMFs of known lines
@@ -257,39 +264,30 @@ module _ (c : Case) where
       go None f z = inr z
       go (Some j) f z = at j (passes_at (emergency_at c.contexts c.asked.ue.number c.asked.session) sessions j f).1.1.1 (context_of j) refl z
 
+  back : (cause : Cause) (b : Bool) → back_off_octet cause ≡ None → eqb (cause_number cause) 91 ≡ false → b ≡ true → Ruled c (settled (Return cause))
+  back cause b o d e = returned cause o d
+
+  -- 7
+  existing : (given.none (standing c) && requests Existing c.asked) ≡ true → Ruled c (only (given.established false (given.known_smf c.asked)))
+  existing e = known Existing false (and_parts (given.none (standing c)) (requests Existing c.asked) e).1 (given.known_smf c.asked) known_lines
+
+  -- 8
+  emergency : (given.none (standing c) && requests InitialEmergency c.asked) ≡ true → Ruled c (only (given.or_choice (given.emergency_smf_of c.asked c.contexts)))
+  emergency e = urgent (and_parts (given.none (standing c)) (requests InitialEmergency c.asked) e).1 (given.emergency_smf_of c.asked c.contexts) urgent_smf
+
+  -- 9
+  existing_emergency : (given.none (standing c) && requests ExistingEmergency c.asked) ≡ true → Ruled c (only (given.established true (known_dnn c.asked.ue c.asked.configuration.emergency.dnn)))
+  existing_emergency e =
+      let n = c.asked.configuration.emergency.dnn in
+      known ExistingEmergency true (and_parts (given.none (standing c)) (requests ExistingEmergency c.asked) e).1 (known_dnn c.asked.ue n) (named_line (λ l. eqb l.dnn n))
+
+  -- 5 to 10
+  last_six : Each c (routes c.asked (given.emergency_smf_of c.asked c.contexts) (standing c))
+  last_six =
+      ((λ e. kept (standing c) refl), ((λ e. chooses Initial false (smf_in (standing c)) e (λ m q. (e, q))), (existing, (emergency, (existing_emergency, (back NotForwarded _ refl refl, tt))))))
+
   -- all ten
   pub ruled : Ruled c (ruling c)
   unfolding ruling_with
   ruled =
-      let back = λ (e : Unit {0}). returned NotForwarded refl (λ q. search rules) in
-      in_list (given.rules c) (
-        (λ e. back tt),
-        (
-          congested (used c.asked (standing c)) _ refl,
-          (
-            (λ e. returned MaximumSessions refl (λ q. search rules)),
-            (
-              (λ e. back tt),
-              (
-                (λ e. kept (standing c) refl),
-                (
-                  chooses,
-                  (
-                    (λ e. known Existing false (and_parts (given.none (standing c)) (requests Existing c.asked) e).1 (given.known_smf c.asked) known_lines),
-                    (
-                      (λ e. urgent (and_parts (given.none (standing c)) (requests InitialEmergency c.asked) e).1 (given.emergency_smf_of c.asked c.contexts) urgent_smf),
-                      (
-                        (λ e. known ExistingEmergency true (and_parts (given.none (standing c)) (requests ExistingEmergency c.asked) e).1 (known_dnn c.asked.ue c.asked.configuration.emergency.dnn) (named_line (λ l. eqb l.dnn c.asked.configuration.emergency.dnn))),
-                        (
-                          (λ e. back tt),
-                          tt,
-                        ),
-                      ),
-                    ),
-                  ),
-                ),
-              ),
-            ),
-          ),
-        ),
-      )
+      in_list (given.rules c) (back NotForwarded _ refl refl, (congested (used c.asked (standing c)) _ refl, (back MaximumSessions _ refl refl, (back NotForwarded _ refl refl, last_six))))

@@ -1,11 +1,10 @@
 -- What holds of every verdict, in words other than the rules'.
 use Rattle.std.specs.Prelude.{◌≡◌, ℕ, ◌≤◌, Bool, true, false, ◌⊎◌, ◌↔◌, List, Some, None, Ok, Err, Option, Result, option_map, ◌==◌}
 use Rattle.std.specs.List.{find, list_any}
-use Rattle.codes.specs.declared.cause.Cause.{Cause}
 use Rattle.codes.specs.declared.cause.Cause.TheVariants.{DnnNotSupported}
 use Rattle.codes.specs.declared.slice_dnn.SliceDnn.{SliceDnn}
 use Rattle.codes.specs.declared.request_type.RequestType.TheVariants.{Initial}
-use Rattle.codes.specs.Causes.{back_off_octet}
+use Rattle.codes.specs.Causes.{cause_number}
 use Rattle.directories.specs.declared.no_smf.NoSmf.{NoSmf}
 use Rattle.directories.specs.declared.no_smf.NoSmf.TheVariants.{Closed, NoneServes}
 use Rattle.directories.specs.Choices.{Chosen}
@@ -15,18 +14,14 @@ use Rattle.records.specs.Records.{record_fits}
 use Rattle.stores.specs.declared.context.Context.{Context}
 use Rattle.stores.specs.Contexts.{fits, lookup, emergency_at}
 use Rattle.verdicts.specs.declared.decision.Decision.{Decision}
-use Rattle.verdicts.specs.declared.decision.Decision.TheVariants.{Forward, Establish, Return}
+use Rattle.verdicts.specs.declared.outcome.Outcome.{Outcome}
+use Rattle.verdicts.specs.declared.outcome.Outcome.TheVariants.{Settled, Choose}
 use Rattle.verdicts.specs.declared.ruling.Ruling.{Ruling}
-use Rattle.verdicts.specs.declared.ruling.Ruling.TheVariants.{Settled, Choose}
+use Rattle.verdicts.specs.Rulings.{asks_directory}
 use Rattle.verdicts.specs.declared.verdict.Verdict.{Verdict}
 use Rattle.verdicts.specs.Cases.{Case, over, standing, requests}
 use Rattle.verdicts.specs.Rules.{Rule, rules, ruling, smf_in}
-use Rattle.verdicts.specs.Verdicts.{smf_of, context_of, verdict}
-
--- a directory has to choose
-abbrev pub asks_directory : Ruling → Bool
-asks_directory (Settled d) = false
-asks_directory (Choose emergency release) = true
+use Rattle.verdicts.specs.Verdicts.{smf_of, cause_of, octet_of, establishes, context_of, verdict}
 
 -- what a directory answers that is open or closed and chose this SMF, if any
 abbrev pub answer_of : Bool → Option ℕ → Result ℕ NoSmf
@@ -34,10 +29,10 @@ answer_of false m = Err Closed
 answer_of true None = Err NoneServes
 answer_of true (Some m) = Ok m
 
-abbrev pub establishes : Decision → Bool
-establishes (Forward m) = false
-establishes (Establish m emergency) = true
-establishes (Return cause) = false
+-- the SMF that a directory chose where the rules say this, and the decision was that
+abbrev pub choice_of : Outcome → Decision → Option ℕ
+choice_of (Settled d) e = None
+choice_of (Choose emergency) e = smf_of e
 
 -- Of the rules one decides: at least one applies, and what is ruled is the first one's ruling.
 pub record OneRule (rs : List Rule) (r : Ruling) : Type 0 where
@@ -71,35 +66,35 @@ ServingSmf opened serves u m = (opened ≡ true) × (serves u.slice u.dnn m ≡ 
 
 -- Everything that is told and that stands is in bounds: the book has n names.
 pub record InBounds (n : ℕ) (c : Case) (serves : ℕ → ℕ → ℕ → Bool) : Type 0 where
-  pub few : n ≤ 64
-  pub told : record_fits n c.asked.ue ≡ true
-  pub core : configuration_fits n c.asked.configuration ≡ true
-  pub session : session_fits c.asked.session ≡ true
-  pub named : (d : ℕ) → c.asked.dnn ≡ Some d → d ≤ n
-  pub contexts : (u k : ℕ) (x : Context) → lookup c.contexts u k ≡ Some x → fits x ≡ true
+  pub book_in : n ≤ 64
+  pub record_in : record_fits n c.asked.ue ≡ true
+  pub configuration_in : configuration_fits n c.asked.configuration ≡ true
+  pub session_in : session_fits c.asked.session ≡ true
+  pub dnn_in : (d : ℕ) → c.asked.dnn ≡ Some d → d ≤ n
+  pub contexts_in : (u k : ℕ) (x : Context) → lookup c.contexts u k ≡ Some x → fits x ≡ true
   pub identified : (s d : ℕ) → serves s d 0 ≡ false
 
 -- ---- all that holds of the verdict v on a case, where the directory is open or closed and has these SMFs
 
 pub record Judged (c : Case) (opened : Bool) (serves takes : ℕ → ℕ → ℕ → Bool) (v : Verdict) : Type 0 where
-  -- it is the one that the rules give
-  pub value : v ≡ verdict c opened (smf_of v.decision)
+  -- it is the one that the rules give, with the SMF that the directory chose, if it was asked and chose one
+  pub value : v ≡ verdict c opened (choice_of (ruling c).outcome v.decision)
   -- the contexts count only by what each session of each UE looks up to, so in whatever order they are kept
-  pub set : (ys : List Context) → ((u k : ℕ) → lookup ys u k ≡ lookup c.contexts u k) → v ≡ verdict (over ys c) opened (smf_of v.decision)
+  pub set : (ys : List Context) → ((u k : ℕ) → lookup ys u k ≡ lookup c.contexts u k) → v ≡ verdict (over ys c) opened (choice_of (ruling c).outcome v.decision)
   -- one rule decides
   pub rule : OneRule (rules c) (ruling c)
   -- the directory's choice is right
-  pub choice : asks_directory (ruling c) ≡ true → Chosen opened (serves v.used.slice v.used.dnn) (takes v.used.slice v.used.dnn) (answer_of opened (smf_of v.decision))
+  pub choice : asks_directory (ruling c).outcome ≡ true → Chosen opened (serves v.used.slice v.used.dnn) (takes v.used.slice v.used.dnn) (answer_of opened (smf_of v.decision))
   -- a payload goes only to an SMF that is named for it
   pub named : (m : ℕ) → smf_of v.decision ≡ Some m → StandingSmf c m ⊎ (KnownSmf c m ⊎ (EmergencySmf c m ⊎ (StaticSmf c m ⊎ ServingSmf opened serves v.used m)))
   -- it goes back as not supported exactly where a directory has to choose that is open and has none
-  pub unserved : v.decision ≡ Return DnnNotSupported ↔ ((asks_directory (ruling c) ≡ true) × (opened ≡ true) × ((m : ℕ) → serves v.used.slice v.used.dnn m ≡ false))
+  pub unserved : cause_of v.decision ≡ Some (cause_number DnnNotSupported) ↔ ((asks_directory (ruling c).outcome ≡ true) × (opened ≡ true) × ((m : ℕ) → serves v.used.slice v.used.dnn m ≡ false))
   -- congestion never holds off a UE of high priority
-  pub priority : c.asked.ue.high_priority ≡ true → (cause : Cause) → v.decision ≡ Return cause → back_off_octet cause ≡ None
+  pub priority : c.asked.ue.high_priority ≡ true → octet_of v.decision ≡ None
   -- with no request type nothing is established,
-  pub plain : c.asked.request ≡ None → establishes v.decision ≡ false
+  pub untyped : c.asked.request ≡ None → establishes v.decision ≡ false
   -- and the payload goes to the SMF of the context that stands
-  pub kept : (x : Context) → c.asked.request ≡ None → standing c ≡ Some x → v.decision ≡ Forward x.smf
+  pub kept : (x : Context) → c.asked.request ≡ None → standing c ≡ Some x → smf_of v.decision ≡ Some x.smf
   -- a session is released only for an initial request, at the SMF that had it
   pub released : (m : ℕ) → v.release ≡ Some m → (requests Initial c.asked ≡ true) × StandingSmf c m
   -- where all is in bounds, so is the context that is to be put

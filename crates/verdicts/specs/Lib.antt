@@ -1,5 +1,6 @@
 pub mod Cases
 pub mod Used
+pub mod Rulings
 pub mod Rules
 pub mod Verdicts
 pub mod Laws

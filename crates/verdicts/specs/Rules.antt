@@ -12,8 +12,10 @@ use Rattle.stores.specs.Contexts.{lookup, others_of, lowest_emergency, is_emerge
 use Rattle.records.specs.Configurations.{emergency_smf}
 use Rattle.records.specs.Firsts.{allows, known_session, known_dnn}
 use Rattle.verdicts.specs.declared.decision.Decision.TheVariants.{Forward, Establish, Return}
+use Rattle.verdicts.specs.declared.outcome.Outcome.{Outcome}
+use Rattle.verdicts.specs.declared.outcome.Outcome.TheVariants.{Settled, Choose}
 use Rattle.verdicts.specs.declared.ruling.Ruling.{Ruling}
-use Rattle.verdicts.specs.declared.ruling.Ruling.TheVariants.{Settled, Choose}
+use Rattle.verdicts.specs.Rulings.{only, settled}
 use Rattle.verdicts.specs.Cases.{Asked, Case, standing, requests, for_emergency}
 use Rattle.verdicts.specs.Used.{used}
 
@@ -60,18 +62,18 @@ barred a o = requests Existing a && is_barred a o
 -- ---- what they rule
 
 -- to an SMF, for which a context is put, or back where there is none
-abbrev pub established : Bool → Option ℕ → Ruling
+abbrev pub established : Bool → Option ℕ → Outcome
 established emergency None = Settled (Return NotForwarded)
 established emergency (Some m) = Settled (Establish m emergency)
 
 -- an emergency request for a session that has this context: to its SMF, if it is an emergency context
-abbrev pub kept_emergency : Context → Ruling
+abbrev pub kept_emergency : Context → Outcome
 kept_emergency x = Settled (cond x.emergency (Forward x.smf) (Return NotForwarded))
 
 -- to the SMF of the context that stands
-unfoldable pub kept_ruling : Asked → Option Context → Ruling
-kept_ruling a None = Settled (Return NotForwarded)
-kept_ruling a (Some x) = cond (for_emergency a) (kept_emergency x) (Settled (Forward x.smf))
+unfoldable pub kept_outcome : Asked → Option Context → Outcome
+kept_outcome a None = Settled (Return NotForwarded)
+kept_outcome a (Some x) = cond (for_emergency a) (kept_emergency x) (Settled (Forward x.smf))
 
 -- the SMF of the first known line of the session; else of the first of the DNN, if the message names one
 unfoldable pub known_smf : Asked → Option ℕ
@@ -86,8 +88,8 @@ emergency_smf_of a xs =
     option_or (option_and_then (λ j. smf_in (lookup xs a.ue.number j)) (lowest_emergency xs a.ue.number a.session)) (emergency_smf a.configuration)
 
 -- to the SMF m, if there is one, and else to the directory's choice
-abbrev pub or_choice : Option ℕ → Ruling
-or_choice None = Choose true None
+abbrev pub or_choice : Option ℕ → Outcome
+or_choice None = Choose true
 or_choice (Some m) = Settled (Establish m true)
 
 -- ---- the rules
@@ -105,29 +107,29 @@ none o = not (is_some o)
 abbrev pub routes : Asked → Option ℕ → Option Context → List Rule
 routes a emergency o =
     -- 5: a context stands, and the request is not initial
-    record { applies = is_some o && not (requests Initial a); ruling = kept_ruling a o } ∷
+    record { applies = is_some o && not (requests Initial a); ruling = only (kept_outcome a o) } ∷
     -- 6: an initial request; a context that stands is released
-    record { applies = requests Initial a; ruling = Choose false (smf_in o) } ∷
+    record { applies = requests Initial a; ruling = record { outcome = Choose false; release = smf_in o } } ∷
     -- 7: an existing request with no context
-    record { applies = none o && requests Existing a; ruling = established false (known_smf a) } ∷
+    record { applies = none o && requests Existing a; ruling = only (established false (known_smf a)) } ∷
     -- 8: an initial emergency request with no context
-    record { applies = none o && requests InitialEmergency a; ruling = or_choice emergency } ∷
+    record { applies = none o && requests InitialEmergency a; ruling = only (or_choice emergency) } ∷
     -- 9: an existing emergency request with no context
-    record { applies = none o && requests ExistingEmergency a; ruling = established true (known_dnn a.ue a.configuration.emergency.dnn) } ∷
+    record { applies = none o && requests ExistingEmergency a; ruling = only (established true (known_dnn a.ue a.configuration.emergency.dnn)) } ∷
     -- 10: no context, and no request type or a modification
-    record { applies = none o && (not (is_some a.request) || requests Modification a); ruling = Settled (Return NotForwarded) } ∷
+    record { applies = none o && (not (is_some a.request) || requests Modification a); ruling = settled (Return NotForwarded) } ∷
     []
 
 abbrev pub rules_with : Asked → List Context → (ControlKey → Option ℕ) → Option Context → SliceDnn → List Rule
 rules_with a xs back_off o u =
     -- 1: an initial request of a UE that awaits a mobility registration and has an emergency context
-    record { applies = awaits_with_emergency a xs o; ruling = Settled (Return NotForwarded) } ∷
+    record { applies = awaits_with_emergency a xs o; ruling = settled (Return NotForwarded) } ∷
     -- 2: congestion
-    record { applies = is_some (congestion a back_off u); ruling = Settled (Return (unwrap_or (congestion a back_off u) NotForwarded)) } ∷
+    record { applies = is_some (congestion a back_off u); ruling = settled (Return (unwrap_or (congestion a back_off u) NotForwarded)) } ∷
     -- 3: an initial or existing request of a UE that has as many other sessions as it may have
-    record { applies = at_limit a xs; ruling = Settled (Return MaximumSessions) } ∷
+    record { applies = at_limit a xs; ruling = settled (Return MaximumSessions) } ∷
     -- 4: an existing request, of a context that may not be moved here
-    record { applies = barred a o; ruling = Settled (Return NotForwarded) } ∷
+    record { applies = barred a o; ruling = settled (Return NotForwarded) } ∷
     -- 5 to 10
     routes a (emergency_smf_of a xs) o
 
@@ -137,7 +139,7 @@ rules c =
 
 -- what the first rule that applies rules
 abbrev pub first_ruling : List Rule → Ruling
-first_ruling [] = Settled (Return NotForwarded)
+first_ruling [] = settled (Return NotForwarded)
 first_ruling (r ∷ rs) = cond r.applies r.ruling (first_ruling rs)
 
 unfoldable pub ruling_with : Asked → List Context → (ControlKey → Option ℕ) → Option Context → SliceDnn → Ruling
@@ -159,7 +161,3 @@ objection a xs back_off o u =
 
 unfoldable pub route : Asked → List Context → Option Context → Ruling
 route a xs o = first_ruling (routes a (emergency_smf_of a xs) o)
-
-abbrev pub unless : Option Cause → Ruling → Ruling
-unless None r = r
-unless (Some cause) r = Settled (Return cause)

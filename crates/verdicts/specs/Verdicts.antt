@@ -1,16 +1,19 @@
 -- Verdicts: where a payload goes, for which slice and DNN, and what is released.
 use Rattle.std.specs.Prelude.{ℕ, Bool, true, false, Some, None, Option}
 use Rattle.codes.specs.declared.cause.Cause.TheVariants.{NotForwarded, DnnNotSupported}
+use Rattle.codes.specs.Causes.{cause_number, back_off_octet}
 use Rattle.codes.specs.declared.slice_dnn.SliceDnn.{SliceDnn}
 use Rattle.stores.specs.declared.context.Context.{Context}
 use Rattle.verdicts.specs.declared.decision.Decision.{Decision}
 use Rattle.verdicts.specs.declared.decision.Decision.TheVariants.{Forward, Establish, Return}
-use Rattle.verdicts.specs.declared.ruling.Ruling.{Ruling}
-use Rattle.verdicts.specs.declared.ruling.Ruling.TheVariants.{Settled, Choose}
+use Rattle.verdicts.specs.declared.outcome.Outcome.{Outcome}
+use Rattle.verdicts.specs.declared.outcome.Outcome.TheVariants.{Settled, Choose}
 use Rattle.verdicts.specs.declared.verdict.Verdict.{Verdict}
 use Rattle.verdicts.specs.Cases.{Case, standing}
 use Rattle.verdicts.specs.Rules.{ruling}
 use Rattle.verdicts.specs.Used.{used}
+
+-- ---- what a decision says
 
 -- the SMF that the payload goes to
 abbrev pub smf_of : Decision → Option ℕ
@@ -18,23 +21,39 @@ smf_of (Forward m) = Some m
 smf_of (Establish m emergency) = Some m
 smf_of (Return cause) = None
 
--- what becomes of it where a directory is asked, which is open or closed, and chose this SMF, if any
+-- the number of the cause that it goes back with
+abbrev pub cause_of : Decision → Option ℕ
+cause_of (Forward m) = None
+cause_of (Establish m emergency) = None
+cause_of (Return cause) = Some (cause_number cause)
+
+-- the back-off octet that goes with it
+abbrev pub octet_of : Decision → Option ℕ
+octet_of (Forward m) = None
+octet_of (Establish m emergency) = None
+octet_of (Return cause) = back_off_octet cause
+
+-- a context is to be put
+abbrev pub establishes : Decision → Bool
+establishes (Forward m) = false
+establishes (Establish m emergency) = true
+establishes (Return cause) = false
+
+-- ---- the verdict
+
+-- what becomes of the payload where a directory is asked, which is open or closed, and chose this SMF, if any
 abbrev pub chosen : Bool → Bool → Option ℕ → Decision
 chosen emergency false m = Return NotForwarded
 chosen emergency true None = Return DnnNotSupported
 chosen emergency true (Some m) = Establish m emergency
 
-abbrev pub decision : Ruling → Bool → Option ℕ → Decision
+abbrev pub decision : Outcome → Bool → Option ℕ → Decision
 decision (Settled d) opened m = d
-decision (Choose emergency release) opened m = chosen emergency opened m
-
-abbrev pub release_of : Ruling → Option ℕ
-release_of (Settled d) = None
-release_of (Choose emergency release) = release
+decision (Choose emergency) opened m = chosen emergency opened m
 
 -- the verdict on a case, with a directory that is open or closed, and the SMF that it chose, if it was asked and chose one
 abbrev pub verdict : Case → Bool → Option ℕ → Verdict
-verdict c opened m = record { used = used c.asked (standing c); decision = decision (ruling c) opened m; release = release_of (ruling c) }
+verdict c opened m = record { used = used c.asked (standing c); decision = decision (ruling c).outcome opened m; release = (ruling c).release }
 
 -- the context that a decision establishes for session k of UE u, with this slice and DNN
 abbrev pub established_by : Decision → SliceDnn → ℕ → ℕ → Option Context

@@ -3,13 +3,15 @@
 
 mod decision;
 mod inquiry;
-mod judging;
+mod judgement;
+mod outcome;
 mod rules;
 mod ruling;
 mod verdict;
 
 pub use decision::Decision;
 pub use inquiry::Inquiry;
-pub use judging::judge;
+pub use judgement::judge;
+pub use outcome::Outcome;
 pub use ruling::Ruling;
 pub use verdict::Verdict;

@@ -1,11 +1,16 @@
 // The rules by which a payload is forwarded or returned, put to a store and to control lines.
 ghost use Rattle.std.specs.Prelude.{◌≡◌};
 ghost use Rattle.control.specs.Lines.{back_off_of};
+ghost use Rattle.records.specs.Firsts.{known_dnn};
+ghost use Rattle.records.specs.Records.{plain};
+ghost use Rattle.verdicts.specs.declared.decision.Decision.TheVariants.{Forward, Return};
 ghost use Rattle.verdicts.specs.Cases.{asked};
+ghost use Rattle.verdicts.specs.Rulings.{only, settled};
 ghost use Rattle.verdicts.specs.Rules.{awaits_with_emergency, control_cause, congestion, at_limit, barred, objection, established, kept_emergency, emergency_smf_of, or_choice, route, ruling_with};
 
 use crate::decision::Decision;
 use crate::inquiry::Inquiry;
+use crate::outcome::Outcome;
 use crate::ruling::Ruling;
 use codes::{Cause, RequestType, SliceDnn, SmfId};
 use control::{ControlKey, ControlTable};
@@ -103,25 +108,38 @@ fn objection<S: Store>(
     None
 }
 
+// Back to the UE.
+fn returned(cause: Cause) -> Ruling
+    ensures { result ≡ settled (Return cause) }
+{
+    Ruling::only(Outcome::Settled(Decision::Return(cause)))
+}
+
+// To the SMF of the context.
+fn forwarded(context: Context) -> Ruling
+    ensures { result ≡ settled (Forward context.smf) }
+{
+    Ruling::only(Outcome::Settled(Decision::Forward(context.smf)))
+}
+
 // To an SMF, for which a context is put, or back where there is none.
 fn established(smf: Option<SmfId>, emergency: bool) -> Ruling
-    ensures { result ≡ established emergency smf }
+    ensures { result ≡ only (established emergency smf) }
 {
-    Ruling::Settled(match smf {
+    Ruling::only(Outcome::Settled(match smf {
         Some(smf) => Decision::Establish { smf, emergency },
         None => Decision::Return(Cause::NotForwarded),
-    })
+    }))
 }
 
 // An emergency request for a session that has this context.
 fn kept_emergency(context: Context) -> Ruling
-    ensures { result ≡ kept_emergency context }
+    ensures { result ≡ only (kept_emergency context) }
 {
-    Ruling::Settled(if context.emergency {
-        Decision::Forward(context.smf)
-    } else {
-        Decision::Return(Cause::NotForwarded)
-    })
+    if context.emergency {
+        return forwarded(context);
+    }
+    returned(Cause::NotForwarded)
 }
 
 // The SMF of the UE's lowest other emergency session, or else the static one.
@@ -140,52 +158,49 @@ fn emergency_smf<S: Store>(inquiry: &Inquiry<'_>, store: &S) -> Option<SmfId>
     }
 }
 
+// The SMF of the first known line of the DNN of emergency sessions.
+fn known_emergency_smf(inquiry: &Inquiry<'_>) -> Option<SmfId>
+    ensures { result ≡ known_dnn (plain inquiry.now.record) inquiry.now.configuration.emergency.dnn }
+{
+    inquiry
+        .record
+        .known_dnn(inquiry.configuration.emergency.dnn)
+}
+
 // To the SMF, if there is one, and else to the directory's choice.
 fn or_choice(smf: Option<SmfId>) -> Ruling
-    ensures { result ≡ or_choice smf }
+    ensures { result ≡ only (or_choice smf) }
 {
-    match smf {
-        Some(smf) => Ruling::Settled(Decision::Establish {
+    Ruling::only(match smf {
+        Some(smf) => Outcome::Settled(Decision::Establish {
             smf,
             emergency: true,
         }),
-        None => Ruling::Choose {
-            emergency: true,
-            release: None,
-        },
-    }
+        None => Outcome::Choose { emergency: true },
+    })
 }
 
 // Where a payload goes, where nothing objects.
-#[tactic(auto, unfolding(crate::specs::Rules::route, crate::specs::Rules::kept_ruling))]
+#[tactic(auto, unfolding(crate::specs::Rules::route, crate::specs::Rules::kept_outcome))]
 fn route<S: Store>(inquiry: &Inquiry<'_>, store: &S, context: Option<Context>) -> Ruling
     ensures { result ≡ route (asked inquiry.now) (S.Store.contexts store.now) context }
 {
     match (inquiry.request_type, context) {
-        (Some(RequestType::Initial), _) => Ruling::Choose {
-            emergency: false,
+        (Some(RequestType::Initial), _) => Ruling {
+            outcome: Outcome::Choose { emergency: false },
             release: context.map(|context| context.smf),
         },
-        (None, Some(context)) => Ruling::Settled(Decision::Forward(context.smf)),
-        (Some(RequestType::Existing), Some(context)) => {
-            Ruling::Settled(Decision::Forward(context.smf))
-        }
-        (Some(RequestType::Modification), Some(context)) => {
-            Ruling::Settled(Decision::Forward(context.smf))
-        }
+        (None, Some(context)) => forwarded(context),
+        (Some(RequestType::Existing), Some(context)) => forwarded(context),
+        (Some(RequestType::Modification), Some(context)) => forwarded(context),
         (Some(RequestType::InitialEmergency), Some(context)) => kept_emergency(context),
         (Some(RequestType::ExistingEmergency), Some(context)) => kept_emergency(context),
         (Some(RequestType::Existing), None) => established(inquiry.known_smf(), false),
         (Some(RequestType::InitialEmergency), None) => or_choice(emergency_smf(inquiry, store)),
-        (Some(RequestType::ExistingEmergency), None) => established(
-            inquiry
-                .record
-                .known_dnn(inquiry.configuration.emergency.dnn),
-            true,
-        ),
-        (Some(RequestType::Modification) | None, None) => {
-            Ruling::Settled(Decision::Return(Cause::NotForwarded))
+        (Some(RequestType::ExistingEmergency), None) => {
+            established(known_emergency_smf(inquiry), true)
         }
+        (Some(RequestType::Modification) | None, None) => returned(Cause::NotForwarded),
     }
 }
 
@@ -201,7 +216,7 @@ pub(crate) fn ruling<S: Store>(
     ensures { result ≡ ruling_with (asked inquiry.now) (S.Store.contexts store.now) (back_off_of controls.now.table.rows.now) context used }
 {
     match objection(inquiry, store, controls, context, used) {
-        Some(cause) => Ruling::Settled(Decision::Return(cause)),
+        Some(cause) => returned(cause),
         None => route(inquiry, store, context),
     }
 }

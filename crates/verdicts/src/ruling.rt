@@ -1,13 +1,25 @@
-// What the rules say before any directory is asked.
-use crate::decision::Decision;
+// All that the rules say, before any directory is asked.
+ghost use Rattle.std.specs.Prelude.{◌≡◌};
+ghost use Rattle.verdicts.specs.Rulings.{only};
+
+use crate::outcome::Outcome;
 use codes::SmfId;
 
 #[derive(Clone, Copy)]
-pub enum Ruling {
-    Settled(Decision),
-    /// A directory has to choose, and the session is released at the SMF that had it.
-    Choose {
-        emergency: bool,
-        release: Option<SmfId>,
-    },
+pub struct Ruling {
+    pub outcome: Outcome,
+    /// The SMF at which the session is to be released, whatever the outcome.
+    pub release: Option<SmfId>,
+}
+
+impl Ruling {
+    // Nothing is to be released.
+    pub(crate) fn only(outcome: Outcome) -> Ruling
+        ensures { result ≡ only outcome }
+    {
+        Ruling {
+            outcome,
+            release: None,
+        }
+    }
 }
