@@ -28,8 +28,12 @@ subscription_fits n l = in_book n l.dnn
 abbrev pub known_fits : ℕ → KnownLine → Bool
 known_fits n l = session_fits l.session && (in_book n l.dnn && nat_lt 0 l.smf)
 
+-- how many sessions a UE may have
+abbrev pub limit_fits : ℕ → Bool
+limit_fits n = nat_lt 0 n && nat_lt n 16
+
 -- A UE number is at least 1, and a session limit 1 to 15. There are 32 subscription lines and 15 known lines at most,
 -- which name DNNs of the book, sessions of 1 to 15, and SMF IDs of at least 1.
 abbrev pub record_fits : ℕ → Ue → Bool
 record_fits n u =
-    nat_lt 0 u.number && (session_fits u.session_limit && (nat_le (length u.subscriptions) 32 && (nat_le (length u.known) 15 && (list_all (subscription_fits n) u.subscriptions && list_all (known_fits n) u.known))))
+    nat_lt 0 u.number && (limit_fits u.session_limit && (nat_le (length u.subscriptions) 32 && (nat_le (length u.known) 15 && (list_all (subscription_fits n) u.subscriptions && list_all (known_fits n) u.known))))

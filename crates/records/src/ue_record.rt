@@ -8,7 +8,7 @@ ghost use Rattle.std.specs.List.{list_all};
 use crate::known_line::KnownLine;
 use crate::numbering::has_number;
 use crate::subscription_line::SubscriptionLine;
-use codes::{DnnNumber, Refusal, SessionId, SliceCode, SmfId, UeNumber, is_session};
+use codes::{DnnNumber, Refusal, SessionId, SliceCode, SmfId, UeNumber};
 use names::Book;
 
 #[derive(Clone, Copy)]
@@ -41,7 +41,7 @@ impl<'a> UeRecord<'a> {
         ensures { result ≡ record_fits (length book.now.names.items) (plain self.now) }
     {
         self.number > 0
-            && is_session(self.session_limit)
+            && (1..=15).contains(&self.session_limit)
             && self.subscriptions.len() <= 32
             && self.known.len() <= 15
             && are_subscriptions(self.subscriptions, book)

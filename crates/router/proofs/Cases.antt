@@ -6,7 +6,7 @@ use Rattle.directories.specs.Lines.{lines_serve, takes_first}
 use Rattle.nas.specs.Uplinks.{walk}
 use Rattle.verdicts.specs.Laws.{answer_of}
 use Rattle.verdicts.specs.Rules as given
-use Rattle.router.specs.WorkedHall.{WorkedHall, lines, common}
+use Rattle.router.specs.TenCases.{TenCases, lines, common}
 
 first_line : (m : Option ℕ) → Chosen true (lines_serve lines common.slice common.dnn) (takes_first lines common.slice common.dnn) (answer_of true m) → m ≡ Some 7
 unfolding takes_first
@@ -17,23 +17,23 @@ no_line : (m : Option ℕ) → Chosen true (lines_serve [] common.slice common.d
 no_line None h = refl
 no_line (Some m) h = absurd (false≢true h.1)
 
-pub cases : WorkedHall
-unfolding walk given.ruling_with given.awaits_with_emergency given.congestion given.held_off given.at_limit given.barred given.kept_ruling given.known_smf given.emergency_smf_of
+pub cases : TenCases
+unfolding walk given.ruling_with given.awaits_with_emergency given.congestion given.held_off given.at_limit given.barred given.kept_outcome given.known_smf given.emergency_smf_of
 cases = record {
-  chosen = first_line;
+  list_chooses = first_line;
   first = refl;
-  made = refl;
-  none_chosen = no_line;
+  first_contexts = refl;
+  empty_list_chooses = no_line;
   unserved = refl;
   closed = λ serves. refl;
   twice = refl;
-  back_again = refl;
-  undone = refl;
+  failed_return = refl;
+  failed_contexts = refl;
   again = refl;
-  cut = refl;
+  no_request_type = refl;
   congested = refl;
-  urgent = refl;
-  urgent_answer = refl;
-  standing = refl;
-  full = refl;
+  emergency_context = refl;
+  emergency_answer = refl;
+  other_session = refl;
+  at_limit = refl;
 }

@@ -8,7 +8,7 @@ use Rattle.stores.specs.declared.context.Context.{Context}
 use Rattle.stores.specs.Contexts.{is_of}
 use Rattle.verdicts.specs.declared.verdict.Verdict.{Verdict}
 use Rattle.verdicts.specs.Verdicts.{smf_of, context_of}
-use Rattle.router.specs.Receives.{Opening, Received, Met, verdict_on}
+use Rattle.router.specs.Receives.{Opening, Received, State, verdict_on}
 
 -- ---- what is fed to it
 
@@ -58,10 +58,10 @@ in_flight p = p.taken + p.returned == 0
 abbrev pub contexts_in : Account → List Context
 contexts_in a = map (λ x. x.context) a.contexts
 
--- what a receive meets in a router that agrees with the account, over a store with this room
-abbrev pub met : Account → (ℕ → ℕ → Bool) → Met
-met a room = record {
-  flying = λ u k. list_any (λ p. in_flight p && (p.ue == u && p.session == k)) a.payloads;
+-- what a receive would be told by it, over a store with this room
+abbrev pub state_of : Account → (ℕ → ℕ → Bool) → State
+state_of a room = record {
+  has_flight = λ u k. list_any (λ p. in_flight p && (p.ue == u && p.session == k)) a.payloads;
   flights = length (filter in_flight a.payloads);
   room = room;
   next = a.next;
@@ -98,18 +98,18 @@ abbrev pub with_message : Opening → Account → Received → Option ℕ → Re
 with_message o a r chosen (Ok m) = with_verdict a r.ue.number m (verdict_on o (contexts_in a) r chosen m)
 with_message o a r chosen (Err e) = a
 
--- the payloads, with n's counted as taken once more
-abbrev pub took : ℕ → List Payload → List Payload
-took n ps = map (λ p. cond (p.number == n) (record { number = p.number; ue = p.ue; session = p.session; octets = p.octets; taken = p.taken + 1; returned = p.returned }) p) ps
+-- the payload, taken and returned so many times more
+abbrev pub counted : ℕ → ℕ → Payload → Payload
+counted t r p = record { number = p.number; ue = p.ue; session = p.session; octets = p.octets; taken = p.taken + t; returned = p.returned + r }
 
--- with n's counted as returned once more
-abbrev pub gave_back : ℕ → List Payload → List Payload
-gave_back n ps = map (λ p. cond (p.number == n) (record { number = p.number; ue = p.ue; session = p.session; octets = p.octets; taken = p.taken; returned = p.returned + 1 }) p) ps
+-- the same of the payload of number n among these
+abbrev pub counted_at : ℕ → ℕ → ℕ → List Payload → List Payload
+counted_at n t r ps = map (λ p. cond (p.number == n) (counted t r p) p) ps
 
 abbrev pub called : Opening → Account → Call → Account
 called o a (receive r chosen) = with_message o a r chosen (read r.octets)
-called o a (taken n) = record { next = a.next; payloads = took n a.payloads; contexts = a.contexts }
-called o a (failed n) = record { next = a.next; payloads = gave_back n a.payloads; contexts = filter (λ x. not (x.number == n)) a.contexts }
+called o a (taken n) = record { next = a.next; payloads = counted_at n 1 0 a.payloads; contexts = a.contexts }
+called o a (failed n) = record { next = a.next; payloads = counted_at n 0 1 a.payloads; contexts = filter (λ x. not (x.number == n)) a.contexts }
 called o a (released u k) = record { next = a.next; payloads = a.payloads; contexts = without u k a.contexts }
 called o a other = a
 

@@ -1,4 +1,4 @@
 pub mod Inquiries
 pub mod Receives
 pub mod Accounts
-pub mod WorkedHall
+pub mod TenCases

@@ -25,16 +25,16 @@ pub record Opening : Type 0 where
 pub record Received : Type 0 where
   pub ue : Ue
   pub back_off : ControlKey → Option ℕ
-  pub opened : Bool
+  pub is_open : Bool
   pub serves : ℕ → ℕ → ℕ → Bool
   pub pool : ℕ
   pub output : ℕ
   pub octets : List ℕ
 
--- what a receive meets in a router: which sessions of which UEs have a payload in flight, how many payloads are in flight, where
--- the store has room, and the next ticket number
-pub record Met : Type 0 where
-  pub flying : ℕ → ℕ → Bool
+-- What a receive asks of the router that it comes to: whether a session of a UE has a payload in flight, how many payloads are in
+-- flight, whether the store has room, and the next ticket number.
+pub record State : Type 0 where
+  pub has_flight : ℕ → ℕ → Bool
   pub flights : ℕ
   pub room : ℕ → ℕ → Bool
   pub next : ℕ
@@ -54,25 +54,29 @@ last_number = 4294967295
 abbrev pub passing : {X : Type 0} → Bool → Refusal → Result X ℕ → Result X ℕ
 passing check e x = cond check x (refuse e)
 
--- the message of a receive that is accepted, or the number of the refusal
-abbrev pub received : Opening → Met → Received → Result Message ℕ
-received o s r =
-    passing (record_fits (length o.names) r.ue) RecordBounds
-    (passing (r.pool == pool_length) PoolLength
-    (then (read r.octets) (λ m.
+-- the message that was read, or the number of the refusal
+abbrev pub admitted : State → Received → Message → Result Message ℕ
+admitted s r m =
     passing (nat_le (length m.payload + 13) r.output) OutputLength
-    (passing (not (s.flying r.ue.number m.session)) PairInFlight
+    (passing (not (s.has_flight r.ue.number m.session)) PairInFlight
     (passing (nat_lt s.flights most_flights) FlightsFull
     (passing (s.room r.ue.number m.session) NoRoom
     (passing (nat_le s.next last_number) NumbersSpent
-    (Ok m))))))))
+    (Ok m)))))
+
+-- the message of a receive that is accepted, or the number of the refusal
+abbrev pub received : Opening → State → Received → Result Message ℕ
+received o s r =
+    passing (record_fits (length o.names) r.ue) RecordBounds
+    (passing (r.pool == pool_length) PoolLength
+    (then (read r.octets) (admitted s r)))
 
 -- ---- the answer
 
 -- the verdict on a message over these contexts, with the SMF that the directory chose, if it was asked and chose one
 abbrev pub verdict_on : Opening → List Context → Received → Option ℕ → Message → Verdict
 verdict_on o contexts r chosen m =
-    verdict (record { asked = inquiry_of o.names o.configuration r.ue m; contexts = contexts; back_off = r.back_off }) r.opened chosen
+    verdict (record { asked = inquiry_of o.names o.configuration r.ue m; contexts = contexts; back_off = r.back_off }) r.is_open chosen
 
 -- what is answered: the number of the ticket, what the message said of its sessions, and the verdict
 pub record Answer : Type 0 where
@@ -82,7 +86,7 @@ pub record Answer : Type 0 where
   pub verdict : Verdict
 
 -- the answer, where contexts are these and the directory chose this SMF, if any; or the number of the refusal
-abbrev pub answered : Opening → Met → List Context → Received → Option ℕ → Result Answer ℕ
+abbrev pub answered : Opening → State → List Context → Received → Option ℕ → Result Answer ℕ
 answered o s contexts r chosen =
     then (received o s r) (λ m. Ok (record { number = s.next; old_session = m.old; request = m.request; verdict = verdict_on o contexts r chosen m }))
 
@@ -93,6 +97,6 @@ returned_with m (Establish smf emergency) = []
 returned_with m (Return cause) = returned m.payload m.session cause
 
 -- what is written to the output
-abbrev pub written : Opening → Met → List Context → Received → Option ℕ → Result (List ℕ) ℕ
+abbrev pub written : Opening → State → List Context → Received → Option ℕ → Result (List ℕ) ℕ
 written o s contexts r chosen =
     then (received o s r) (λ m. Ok (returned_with m (verdict_on o contexts r chosen m).decision))

@@ -1,5 +1,5 @@
 use Rattle.router.proofs.Cases.{cases}
-use Rattle.router.proofs.worked_hall.worked_hall.Goals as goal
+use Rattle.router.proofs.ten_cases.ten_cases.Goals as goal
 
 pub returns : goal.returns
 returns c = cases

@@ -4,8 +4,7 @@ use Rattle.codes.specs.Refusals.{refusal_number}
 use Rattle.codes.specs.declared.refusal.Refusal.TheVariants.{PairInFlight}
 use Rattle.codes.specs.declared.slice_dnn.SliceDnn.{SliceDnn}
 use Rattle.control.specs.declared.control_key.ControlKey.{ControlKey}
-use Rattle.control.specs.declared.control_key.ControlKey.TheVariants.{Dnn}
-use Rattle.control.specs.Keys.{same_key}
+use Rattle.control.specs.Keys.{key_in, same_key}
 use Rattle.directories.specs.declared.service_line.ServiceLine.{ServiceLine}
 use Rattle.directories.specs.Choices.{Chosen}
 use Rattle.directories.specs.Lines.{lines_serve, takes_first}
@@ -16,7 +15,7 @@ use Rattle.stores.specs.Contexts.{pair_fits}
 use Rattle.verdicts.specs.declared.decision.Decision.TheVariants.{Establish}
 use Rattle.verdicts.specs.Laws.{answer_of}
 use Rattle.router.specs.Receives.{Opening, Received, Answer, answered, written}
-use Rattle.router.specs.Accounts.{Account, Call, receive, taken, failed, contexts_in, met, account, failed_octets}
+use Rattle.router.specs.Accounts.{Account, Call, receive, taken, failed, contexts_in, state_of, account, failed_octets}
 
 -- ---- the core
 
@@ -45,9 +44,14 @@ ue limit = record { number = 5; high_priority = false; awaits_registration = fal
 abbrev pub no_line : ControlKey → Option ℕ
 no_line k = None
 
--- there is one, for DNN 1, with back-off octet 21
+-- there is just the one that was set by these numbers, if they name a key
+abbrev pub line_of : Option ControlKey → ℕ → ControlKey → Option ℕ
+line_of None b k = None
+line_of (Some j) b k = cond (same_key j k) (Some b) None
+
+-- a line of kind 1, for DNN 1, with back-off octet 21
 abbrev pub one_line : ControlKey → Option ℕ
-one_line k = cond (same_key (Dnn 1) k) (Some 0x21) None
+one_line = line_of (key_in 1 0 1) 0x21
 
 -- the sample message, and it with other last octets
 abbrev pub with_end : List ℕ → List ℕ
@@ -55,23 +59,23 @@ with_end end =
     0x7E ∷ 0x00 ∷ 0x67 ∷ 0x01 ∷ 0x00 ∷ 0x04 ∷ 0x2E ∷ 0x01 ∷ 0x01 ∷ 0xC1 ∷ end
 
 -- the octets of its return, up to the cause
-abbrev pub back : List ℕ → List ℕ
-back end =
+abbrev pub return_with : List ℕ → List ℕ
+return_with end =
     0x7E ∷ 0x00 ∷ 0x68 ∷ 0x01 ∷ 0x00 ∷ 0x04 ∷ 0x2E ∷ 0x01 ∷ 0x01 ∷ 0xC1 ∷ 0x12 ∷ 0x01 ∷ 0x58 ∷ end
 
 -- octets that UE 5 sends, with whole buffers, no control line and the list directory
 abbrev pub sent : List ℕ → Received
-sent octets = record { ue = ue 15; back_off = no_line; opened = true; serves = lines_serve lines; pool = 32768; output = 4096; octets = octets }
+sent octets = record { ue = ue 15; back_off = no_line; is_open = true; serves = lines_serve lines; pool = 32768; output = 4096; octets = octets }
 
 -- over another directory
 abbrev pub over : Bool → (ℕ → ℕ → ℕ → Bool) → Received → Received
-over opened serves r = record { ue = r.ue; back_off = r.back_off; opened = opened; serves = serves; pool = r.pool; output = r.output; octets = r.octets }
+over is_open serves r = record { ue = r.ue; back_off = r.back_off; is_open = is_open; serves = serves; pool = r.pool; output = r.output; octets = r.octets }
 
 abbrev pub held_off : Received → Received
-held_off r = record { ue = r.ue; back_off = one_line; opened = r.opened; serves = r.serves; pool = r.pool; output = r.output; octets = r.octets }
+held_off r = record { ue = r.ue; back_off = one_line; is_open = r.is_open; serves = r.serves; pool = r.pool; output = r.output; octets = r.octets }
 
 abbrev pub limited : ℕ → Received → Received
-limited limit r = record { ue = ue limit; back_off = r.back_off; opened = r.opened; serves = r.serves; pool = r.pool; output = r.output; octets = r.octets }
+limited limit r = record { ue = ue limit; back_off = r.back_off; is_open = r.is_open; serves = r.serves; pool = r.pool; output = r.output; octets = r.octets }
 
 -- the account of calls that were carried out, the latest first
 abbrev pub done : List Call → Account
@@ -81,11 +85,11 @@ done calls = account opening (map (λ c. record { call = c; refused = false }) c
 -- any store's floor, so there is room for each UE and session.
 abbrev pub answer_after : List Call → Received → Option ℕ → Result Answer ℕ
 answer_after calls r chosen =
-    answered opening (met (done calls) pair_fits) (contexts_in (done calls)) r chosen
+    answered opening (state_of (done calls) pair_fits) (contexts_in (done calls)) r chosen
 
 abbrev pub written_after : List Call → Received → Option ℕ → Result (List ℕ) ℕ
 written_after calls r chosen =
-    written opening (met (done calls) pair_fits) (contexts_in (done calls)) r chosen
+    written opening (state_of (done calls) pair_fits) (contexts_in (done calls)) r chosen
 
 -- an initial request is forwarded to an SMF, under this number
 abbrev pub forwarded : ℕ → ℕ → Option ℕ → Result Answer ℕ
@@ -107,31 +111,31 @@ initial = sent sample
 abbrev pub forward : Call
 forward = receive initial (Some 7)
 
-pub record WorkedHall : Type 0 where
+pub record TenCases : Type 0 where
   -- the list directory chooses SMF 7
-  pub chosen : (m : Option ℕ) → Chosen true (lines_serve lines common.slice common.dnn) (takes_first lines common.slice common.dnn) (answer_of true m) → m ≡ Some 7
+  pub list_chooses : (m : Option ℕ) → Chosen true (lines_serve lines common.slice common.dnn) (takes_first lines common.slice common.dnn) (answer_of true m) → m ≡ Some 7
   -- 1: the message is forwarded to it under number 1, and a context is made
   pub first : answer_after [] initial (Some 7) ≡ forwarded 1 7 None
-  pub made : contexts_in (done (forward ∷ [])) ≡ context 1 7 false common ∷ []
+  pub first_contexts : contexts_in (done (forward ∷ [])) ≡ context 1 7 false common ∷ []
   -- 2: a list directory with no lines chooses none
-  pub none_chosen : (m : Option ℕ) → Chosen true (lines_serve [] common.slice common.dnn) (takes_first [] common.slice common.dnn) (answer_of true m) → m ≡ None
-  pub unserved : written_after [] (over true (lines_serve []) initial) None ≡ Ok (back (0x5B ∷ []))
+  pub empty_list_chooses : (m : Option ℕ) → Chosen true (lines_serve [] common.slice common.dnn) (takes_first [] common.slice common.dnn) (answer_of true m) → m ≡ None
+  pub unserved : written_after [] (over true (lines_serve []) initial) None ≡ Ok (return_with (0x5B ∷ []))
   -- 3: a directory is closed, whoever serves what in it
-  pub closed : (serves : ℕ → ℕ → ℕ → Bool) → written_after [] (over false serves initial) None ≡ Ok (back (0x5A ∷ []))
+  pub closed : (serves : ℕ → ℕ → ℕ → Bool) → written_after [] (over false serves initial) None ≡ Ok (return_with (0x5A ∷ []))
   -- 4: the message comes again while the first is in flight
   pub twice : answer_after (forward ∷ []) initial (Some 7) ≡ Err (refusal_number PairInFlight)
   -- 5: the SMF did not take it
-  pub back_again : failed_octets (done (forward ∷ [])) 1 ≡ Some (back (0x5A ∷ []))
-  pub undone : contexts_in (done (failed 1 ∷ forward ∷ [])) ≡ []
+  pub failed_return : failed_octets (done (forward ∷ [])) 1 ≡ Some (return_with (0x5A ∷ []))
+  pub failed_contexts : contexts_in (done (failed 1 ∷ forward ∷ [])) ≡ []
   -- 6: it took it, and the message comes again
   pub again : answer_after (taken 1 ∷ forward ∷ []) initial (Some 7) ≡ forwarded 2 7 (Some 7)
   -- 7: the message without its last octet, and so without a request type
-  pub cut : written_after [] (sent (with_end (0x12 ∷ 0x01 ∷ []))) None ≡ Ok (back (0x5A ∷ []))
+  pub no_request_type : written_after [] (sent (with_end (0x12 ∷ 0x01 ∷ []))) None ≡ Ok (return_with (0x5A ∷ []))
   -- 8: a control line for DNN 1
-  pub congested : written_after [] (held_off initial) None ≡ Ok (back (0x16 ∷ 0x37 ∷ 0x01 ∷ 0x21 ∷ []))
+  pub congested : written_after [] (held_off initial) None ≡ Ok (return_with (0x16 ∷ 0x37 ∷ 0x01 ∷ 0x21 ∷ []))
   -- 9: an initial emergency request goes to the static SMF
-  pub urgent : contexts_in (done (receive (sent (with_end (0x12 ∷ 0x01 ∷ 0x83 ∷ []))) None ∷ [])) ≡ context 1 9 true emergency ∷ []
-  pub urgent_answer : answer_after [] (sent (with_end (0x12 ∷ 0x01 ∷ 0x83 ∷ []))) None ≡ Ok (record { number = 1; old_session = None; request = Some 3; verdict = record { used = emergency; decision = Establish 9 true; release = None } })
+  pub emergency_context : contexts_in (done (receive (sent (with_end (0x12 ∷ 0x01 ∷ 0x83 ∷ []))) None ∷ [])) ≡ context 1 9 true emergency ∷ []
+  pub emergency_answer : answer_after [] (sent (with_end (0x12 ∷ 0x01 ∷ 0x83 ∷ []))) None ≡ Ok (record { number = 1; old_session = None; request = Some 3; verdict = record { used = emergency; decision = Establish 9 true; release = None } })
   -- 10: a UE that may have one session, and has session 2
-  pub standing : contexts_in (done (taken 1 ∷ receive (limited 1 (sent (with_end (0x12 ∷ 0x02 ∷ 0x81 ∷ [])))) (Some 7) ∷ [])) ≡ context 2 7 false common ∷ []
-  pub full : written_after (taken 1 ∷ receive (limited 1 (sent (with_end (0x12 ∷ 0x02 ∷ 0x81 ∷ [])))) (Some 7) ∷ []) (limited 1 initial) None ≡ Ok (back (0x41 ∷ []))
+  pub other_session : contexts_in (done (taken 1 ∷ receive (limited 1 (sent (with_end (0x12 ∷ 0x02 ∷ 0x81 ∷ [])))) (Some 7) ∷ [])) ≡ context 2 7 false common ∷ []
+  pub at_limit : written_after (taken 1 ∷ receive (limited 1 (sent (with_end (0x12 ∷ 0x02 ∷ 0x81 ∷ [])))) (Some 7) ∷ []) (limited 1 initial) None ≡ Ok (return_with (0x41 ∷ []))
