@@ -159,7 +159,8 @@ const SESSION_3: Context = Context {
     smf: 23,
     ..SESSION_1
 };
-// emergency sessions
+
+// Emergency sessions.
 const SESSION_12: Context = Context {
     session: 12,
     smf: 32,
@@ -173,7 +174,8 @@ const SESSION_14: Context = Context {
     emergency: true,
     ..SESSION_1
 };
-// another UE's
+
+// One of another UE.
 const OTHERS: Context = Context {
     ue: 6,
     session: 15,
@@ -576,7 +578,28 @@ type Use = (
     DnnNumber,
 );
 
-const USES: [Use; 9] = [
+// A UE whose default slice and DNN are not the core's.
+const MOVED: UeRecord<'static> = UeRecord {
+    subscriptions: &[
+        SubscriptionLine {
+            slice: ALLOWED_SLICE,
+            dnn: 5,
+            default_slice: true,
+            default_dnn: true,
+            allowed: false,
+        },
+        SubscriptionLine {
+            slice: 3,
+            dnn: 4,
+            default_slice: true,
+            default_dnn: true,
+            allowed: false,
+        },
+    ],
+    ..UE
+};
+
+const USES: [Use; 11] = [
     (WITHOUT_LINES, INITIAL, None, None, true, SLICE, 1),
     (WITHOUT_LINES, MODIFICATION, None, None, true, 7, 8),
     (WITHOUT_LINES, None, Some(9), None, true, 9, 8),
@@ -586,6 +609,8 @@ const USES: [Use; 9] = [
     (UE, INITIAL, Some(3), None, false, 3, 4),
     (UE, EXISTING, Some(9), None, false, 9, 1),
     (UE, INITIAL_EMERGENCY, Some(9), Some(9), true, SLICE, 2),
+    (MOVED, INITIAL, None, None, true, ALLOWED_SLICE, 5),
+    (MOVED, EXISTING, Some(3), None, false, 3, 4),
 ];
 
 const STANDING: Context = Context {

@@ -190,8 +190,7 @@ fn judges_octets(rt: HostRuntime) -> Result<(), Fail> {
     })?;
     let mut control_rows = [ControlRow::free(); 1];
     let Ok(controls) = ControlTable::new(&mut control_rows) else {
-        assert!(rt; false);
-        return Ok(());
+        return Err(SetupError::from(Refusal::Opening).into());
     };
     let cases: [(&[u8], Option<SmfId>); 3] = [
         (b"\x7E\x00\x67\x01\x00\x01\x2E\x12\x01\x81", None),
@@ -209,6 +208,8 @@ fn judges_octets(rt: HostRuntime) -> Result<(), Fail> {
         let inquiry = inquiry(&uplink, UE, CONFIGURATION, &book);
         let verdict = judge(&inquiry, &GridStore::new(), &controls, &mut directory);
         assert_eq!(rt; verdict.decision.smf(), smf);
+        let context = verdict.context(inquiry.pdu_session());
+        assert_eq!(rt; context.map(|context| context.smf), smf);
     }
     Ok(())
 }
