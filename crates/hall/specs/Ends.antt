@@ -17,3 +17,9 @@ outcome_of (Ok _) = Some Accepted
 outcome_of (Err (ends.Setup (setup.Refused r))) = Some (Refused r)
 outcome_of (Err (ends.Setup setup.OutOfMemory)) = None
 outcome_of (Err ends.Misplaced) = Some Misplaced
+
+-- the same of what was not done
+abbrev pub reason : NotDone → Option Outcome
+reason (ends.Setup (setup.Refused r)) = Some (Refused r)
+reason (ends.Setup setup.OutOfMemory) = None
+reason ends.Misplaced = Some Misplaced

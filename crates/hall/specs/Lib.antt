@@ -2,10 +2,15 @@ pub mod Verbs
 pub mod Kinds
 pub mod Changes
 pub mod Asked
+pub mod Numerals
+pub mod Openings
+pub mod Notes
+pub mod Calls
 pub mod Commands
 pub mod Readings
 pub mod Ends
 pub mod Outcomes
+pub mod Replies
 pub mod Effects
 pub mod Halls
 pub mod Lines

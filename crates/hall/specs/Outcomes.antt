@@ -43,3 +43,13 @@ outcome_line number c Misplaced = error_line number
 abbrev pub Tells : ℕ → Change → Option Outcome → List ℕ → Type 0
 Tells number c None s = ⊥
 Tells number c (Some o) s = s ≡ outcome_line number c o
+
+-- the line of what prints its verb alone where it is accepted
+abbrev pub done_line : ℕ → Verb → Outcome → List ℕ
+done_line number verb Accepted = verb_word verb
+done_line number verb (Refused r) = refused_line verb (refusal_number r)
+done_line number verb Misplaced = error_line number
+
+abbrev pub TellsDone : ℕ → Verb → Option Outcome → List ℕ → Type 0
+TellsDone number verb None s = ⊥
+TellsDone number verb (Some o) s = s ≡ done_line number verb o

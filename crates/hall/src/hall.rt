@@ -13,6 +13,7 @@ use crate::directory::HallDirectory;
 use crate::directory_kind::DirectoryKind;
 use crate::directory_state::DirectoryState;
 use crate::not_done::NotDone;
+use crate::opening::Opening;
 use control::ControlTable;
 use directories::{ListDirectory, ServiceLine, TurningDirectory};
 use flat::FlatStore;
@@ -36,15 +37,15 @@ fn lend<'a>(heap: Global, names: &'a [Vec<u8>]) -> Result<Vec<&'a [u8]>, AllocEr
 }
 
 impl Hall {
-    // Nothing but a control table of 64 rows is wanted.
+    // Nothing is set up, and nothing is wanted.
     pub(crate) fn new() -> Hall
-        ensures { (result.book ≡ None) × (result.store ≡ None) × (result.directory ≡ None) × (result.wanted_rows ≡ Some 64) }
+        ensures { (result.book ≡ None) × (result.store ≡ None) × (result.directory ≡ None) × (result.wanted_rows ≡ None) }
     {
         Hall {
             book: None,
             store: None,
             directory: None,
-            wanted_rows: Some(64),
+            wanted_rows: None,
         }
     }
 
@@ -57,10 +58,26 @@ impl Hall {
         self.wanted_rows.take()
     }
 
-    pub(crate) fn wants_rows(&self) -> bool
-        ensures { result ≡ is_some self.now.wanted_rows }
-    {
-        self.wanted_rows.is_some()
+    pub(crate) fn book(&self) -> Option<&Book> {
+        self.book.as_ref()
+    }
+
+    pub(crate) fn store(&self) -> Option<StoreKind> {
+        self.store
+    }
+
+    pub(crate) fn directory_mut(&mut self) -> Option<&mut HallDirectory> {
+        self.directory.as_mut()
+    }
+
+    // Whether a router can be opened over the book and a new store: it is misplaced before these are there.
+    pub(crate) fn check_opening(&self, opening: &Opening) -> Result<(), NotDone> {
+        let book = self.book.as_ref().ok_or(NotDone::Misplaced)?;
+        if self.store.is_none() {
+            return Err(NotDone::Misplaced);
+        }
+        opening.check(book)?;
+        Ok(())
     }
 
     fn make_book(&mut self, heap: Global, names: &[Vec<u8>]) -> Result<(), NotDone>

@@ -2,8 +2,8 @@
 ghost use Rattle.std.specs.Prelude.{◌≡◌, IfOk, string_bytes};
 ghost use Rattle.codes.specs.Refusals.{refusal_number};
 ghost use Rattle.hall.specs.Asked.{wanted};
-ghost use Rattle.hall.specs.Ends.{outcome_of};
-ghost use Rattle.hall.specs.Outcomes.{accepted_line, refused_line, Tells};
+ghost use Rattle.hall.specs.Ends.{outcome_of, reason};
+ghost use Rattle.hall.specs.Outcomes.{accepted_line, refused_line, Tells, TellsDone};
 
 use crate::change::{Change, StoreKind};
 use crate::not_done::NotDone;
@@ -41,6 +41,22 @@ fn refused_line(heap: Global, verb: Verb, refusal: Refusal) -> Result<String, Al
     format!(in heap; "{verb} refused {number}")
 }
 
+// What the line of this number prints that asked for something that was not done.
+pub(crate) fn not_done_line(
+    heap: Global,
+    number: u64,
+    verb: Verb,
+    not_done: NotDone,
+) -> Result<String, AllocError>
+    ensures { IfOk result (λ s. TellsDone number verb (reason not_done) (string_bytes s)) }
+{
+    match not_done {
+        NotDone::Setup(SetupError::Refused(refusal)) => refused_line(heap, verb, refusal),
+        NotDone::Setup(SetupError::OutOfMemory) => Err(AllocError),
+        NotDone::Misplaced => error_line(heap, number),
+    }
+}
+
 // What the line of this number prints that asked for `change`.
 pub(crate) fn outcome_line(
     heap: Global,
@@ -52,12 +68,6 @@ pub(crate) fn outcome_line(
 {
     match done {
         Ok(()) => accepted_line(heap, change),
-        Err(NotDone::Setup(SetupError::Refused(refusal))) => refused_line(
-            heap,
-            change.verb(),
-            refusal,
-        ),
-        Err(NotDone::Setup(SetupError::OutOfMemory)) => Err(AllocError),
-        Err(NotDone::Misplaced) => error_line(heap, number),
+        Err(not_done) => not_done_line(heap, number, change.verb(), not_done),
     }
 }

@@ -4,6 +4,7 @@ ghost use Rattle.std.specs.Option.{option_map};
 ghost use Rattle.scenario.specs.Number.{number_in};
 ghost use Rattle.scenario.specs.Words.{text};
 ghost use Rattle.hall.specs.Asked.{wanted};
+ghost use Rattle.hall.specs.Numerals.{u32_in};
 ghost use Rattle.hall.specs.Changes.{byte_in, names_in, book_words, flat_of, store_words, directory_words, line_of, serve_words, mark_words, control_words, numbers_of, set_words, clear_words};
 
 use crate::change::{Change, StoreKind};
@@ -16,13 +17,21 @@ use scenario::{parse_number, parse_octet, parse_octets, parse_slice};
 use std::alloc::{AllocError, Global};
 
 // A number that one octet holds.
-fn parse_byte(word: &[u8]) -> Option<u8>
+pub(crate) fn parse_byte(word: &[u8]) -> Option<u8>
     ensures { result ≡ byte_in word.now }
 {
     u8::try_from(parse_number(word)?).ok()
 }
 
-fn parse_rows(word: &[u8]) -> Option<usize>
+// A number that four octets hold.
+pub(crate) fn parse_u32(word: &[u8]) -> Option<u32>
+    ensures { result ≡ u32_in word.now }
+{
+    u32::try_from(parse_number(word)?).ok()
+}
+
+// How many rows or octets there are to be.
+pub(crate) fn parse_length(word: &[u8]) -> Option<usize>
     ensures { result ≡ number_in word.now }
 {
     parse_number(word).map(|rows| rows as usize)
@@ -58,7 +67,7 @@ fn flat_change(kind: &[u8], rows: &[u8]) -> Option<Change>
     if !is_word(kind, b"flat") {
         return None;
     }
-    Some(Change::Store(StoreKind::Flat(parse_rows(rows)?)))
+    Some(Change::Store(StoreKind::Flat(parse_length(rows)?)))
 }
 
 pub(crate) fn parse_store(words: &[&[u8]]) -> Option<Change>
@@ -109,7 +118,7 @@ pub(crate) fn parse_control(words: &[&[u8]]) -> Option<Change>
     let [rows] = words else {
         return None;
     };
-    Some(Change::Control(parse_rows(*rows)?))
+    Some(Change::Control(parse_length(*rows)?))
 }
 
 fn control_numbers(kind: &[u8], slice: &[u8], dnn: &[u8]) -> Option<ControlNumbers>

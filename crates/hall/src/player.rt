@@ -1,54 +1,114 @@
-// What plays a scenario: it changes the hall as each line asks, and prints what the line answers.
+// What plays a scenario: it does what each line asks, and prints what the line answers.
 ghost use Rattle.std.specs.Prelude.{IfOk, string_bytes};
 ghost use Rattle.std.specs.Option.{option_map};
+ghost use Rattle.std.specs.Prelude.{◌≡◌};
+ghost use Rattle.hall.specs.Calls.{called};
+ghost use Rattle.hall.specs.Ends.{Outcome, outcome_of};
 ghost use Rattle.hall.specs.Lines.{Printed, PrintedIf, Answers};
+ghost use Rattle.hall.specs.Outcomes.{TellsDone, done_line};
+ghost use Rattle.hall.specs.Replies.{CallLine, note_verb};
+ghost use Rattle.hall.specs.declared.verb.Verb.TheVariants as verbs;
 ghost use Rattle.hall.specs.Readings.{asked};
 
+use crate::call::Call;
 use crate::command::{Command, parse_command};
-use crate::hall::Hall;
-use crate::outcome::outcome_line;
-use control::ControlTable;
+use crate::not_done::NotDone;
+use crate::opening::Opening;
+use crate::outcome::{not_done_line, outcome_line};
+use crate::routing::Routing;
+use crate::stage::Stage;
+use crate::ue_note::UeNote;
+use crate::verb::Verb;
+use crate::word::Word;
 use playing::{LinePlayer, error_line, line_words, read_line};
 use std::alloc::AllocError;
 use std::ops::ControlFlow;
 
 #[derive(Drop)]
-pub(crate) struct Player<'a> {
-    pub(crate) rt: &'a HostRuntime,
-    pub(crate) hall: &'a mut Hall,
-    pub(crate) table: ControlTable<'a>,
+pub(crate) struct Player<'a, 'b, R: Routing> {
+    pub(crate) stage: &'a mut Stage<'b>,
+    pub(crate) routing: &'a mut R,
 }
 
-impl Player<'_> {
+impl<R: Routing> Player<'_, '_, R> {
+    // The line of what was done, which is the verb alone, or the line that says why it was not.
+    fn done_line(
+        &self,
+        number: u64,
+        verb: Verb,
+        done: Result<(), NotDone>,
+    ) -> Result<String, AllocError>
+        ensures { IfOk result (λ s. TellsDone number verb (outcome_of done) (string_bytes s)) }
+    {
+        let heap = self.stage.rt.alloc();
+        match done {
+            Ok(()) => format!(in heap; "{}", Word(verb)),
+            Err(not_done) => not_done_line(heap, number, verb, not_done),
+        }
+    }
+
+    // Has a router opened behind this line, if it can be.
+    fn want_router(&mut self, opening: Opening) -> Result<(), NotDone> {
+        self.stage.hall.check_opening(&opening)?;
+        self.stage.wanted = Some(opening);
+        Ok(())
+    }
+
+    fn open_line(&mut self, number: u64, opening: Opening) -> Result<String, AllocError>
+        ensures { IfOk result (λ s. (o : Outcome) × (string_bytes s ≡ done_line number verbs.Open o)) }
+    {
+        let done = self.want_router(opening);
+        self.done_line(number, Verb::Open, done)
+    }
+
+    fn note_line(&mut self, number: u64, note: UeNote) -> Result<String, AllocError>
+        ensures { IfOk result (λ s. (o : Outcome) × (string_bytes s ≡ done_line number (note_verb note) o)) }
+    {
+        let done = note.enter(self.stage.rt.alloc(), &mut self.stage.ues);
+        self.done_line(number, note.verb(), done)
+    }
+
+    fn call_line(&mut self, number: u64, call: &Call) -> Result<String, AllocError>
+        ensures { IfOk result (λ s. (o : Outcome) × CallLine number (called call.now) o (string_bytes s)) }
+    {
+        match self.routing.ask(self.stage, call) {
+            Ok(line) => Ok(line),
+            Err(not_done) => not_done_line(self.stage.rt.alloc(), number, call.verb(), not_done),
+        }
+    }
+
     // What a line of this number prints that asks for `command`.
     fn command_line(&mut self, number: u64, command: &Command) -> Result<String, AllocError>
-        ensures { IfOk result (λ s. Printed self.old.hall.now.directory self.old.table.table.rows.now number (asked command.now) (string_bytes s)) }
+        ensures { IfOk result (λ s. Printed self.old.stage.now.hall.directory self.old.stage.now.table.table.rows.now number (asked command.now) (string_bytes s)) }
     {
-        let heap = self.rt.alloc();
+        let heap = self.stage.rt.alloc();
         match command {
             Command::Read(octets) => read_line(heap, octets.as_slice()),
             Command::Change(change) => {
-                let done = self.hall.apply(heap, &mut self.table, change);
+                let done = self.stage.apply(change);
                 outcome_line(heap, number, change, done)
             }
+            Command::Open(opening) => self.open_line(number, *opening),
+            Command::Note(note) => self.note_line(number, *note),
+            Command::Call(call) => self.call_line(number, call),
         }
     }
 
     // The same, where the line may ask for nothing that there is.
     fn answer_line(&mut self, number: u64, command: Option<Command>) -> Result<String, AllocError>
-        ensures { IfOk result (λ s. PrintedIf self.old.hall.now.directory self.old.table.table.rows.now number (option_map asked command) (string_bytes s)) }
+        ensures { IfOk result (λ s. PrintedIf self.old.stage.now.hall.directory self.old.stage.now.table.table.rows.now number (option_map asked command) (string_bytes s)) }
     {
         match command {
             Some(command) => self.command_line(number, &command),
-            None => error_line(self.rt.alloc(), number),
+            None => error_line(self.stage.rt.alloc(), number),
         }
     }
 
     // What the line of this number prints, if it prints anything.
     fn answer(&mut self, number: u64, line: &[u8]) -> Result<Option<String>, AllocError>
-        ensures { IfOk result (λ o. Answers self.old.hall.now.directory self.old.table.table.rows.now number line.now (option_map string_bytes o)) }
+        ensures { IfOk result (λ o. Answers self.old.stage.now.hall.directory self.old.stage.now.table.table.rows.now number line.now (option_map string_bytes o)) }
     {
-        let heap = self.rt.alloc();
+        let heap = self.stage.rt.alloc();
         let Some(words) = line_words(heap, line)? else {
             return Ok(None);
         };
@@ -57,13 +117,14 @@ impl Player<'_> {
     }
 }
 
-impl LinePlayer for Player<'_> {
-    // A line that asks for another control table breaks off.
+impl<R: Routing> LinePlayer for Player<'_, '_, R> {
+    // A line that asks for another router breaks off.
     fn play_line(&mut self, number: u64, line: &[u8]) -> anyhow::Result<ControlFlow<()>> {
         if let Some(text) = self.answer(number, line)? {
-            self.rt.println(text)?;
+            self.stage.rt.println(text)?;
         }
-        if self.hall.wants_rows() {
+        self.stage.renew_table()?;
+        if self.stage.wanted.is_some() {
             return Ok(ControlFlow::Break(()));
         }
         Ok(ControlFlow::Continue(()))

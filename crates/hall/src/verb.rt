@@ -15,6 +15,18 @@ pub(crate) enum Verb {
     Control,
     Set,
     Clear,
+    Open,
+    Ue,
+    Subscribe,
+    Know,
+    Receive,
+    Payload,
+    Taken,
+    Failed,
+    Park,
+    Pick,
+    Released,
+    Find,
 }
 
 impl Worded for Verb {
@@ -31,12 +43,24 @@ impl Worded for Verb {
             Verb::Control => "control",
             Verb::Set => "set",
             Verb::Clear => "clear",
+            Verb::Open => "open",
+            Verb::Ue => "ue",
+            Verb::Subscribe => "subscribe",
+            Verb::Know => "know",
+            Verb::Receive => "receive",
+            Verb::Payload => "payload",
+            Verb::Taken => "taken",
+            Verb::Failed => "failed",
+            Verb::Park => "park",
+            Verb::Pick => "pick",
+            Verb::Released => "released",
+            Verb::Find => "find",
         }
     }
 }
 
 impl Verb {
-    const ALL: [Verb; 9] = [
+    const ALL: [Verb; 21] = [
         Verb::Read,
         Verb::Book,
         Verb::Store,
@@ -46,6 +70,18 @@ impl Verb {
         Verb::Control,
         Verb::Set,
         Verb::Clear,
+        Verb::Open,
+        Verb::Ue,
+        Verb::Subscribe,
+        Verb::Know,
+        Verb::Receive,
+        Verb::Payload,
+        Verb::Taken,
+        Verb::Failed,
+        Verb::Park,
+        Verb::Pick,
+        Verb::Released,
+        Verb::Find,
     ];
 
     // The verb that the word is, if it is one. No `TryFrom`, since an error would have nothing to say.

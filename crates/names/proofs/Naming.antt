@@ -143,17 +143,17 @@ element : {X : Type 0} (xs : List X) (k : ℕ) → k < length xs → X
 element [] k h = absurd (omega arith)
 element (x ∷ xs) k h = x
 
-module _ {S T : Type 0} {steps : S → Option (Result Name AllocError) → S → Type 0} {source : T → Option (Bor (Bor (List ℕ))) → T → Type 0} (p : Run steps) (q : Run source) (R : Bor (Bor (List ℕ)) → Result Name AllocError → Type 0) (copies : (x : Bor (Bor (List ℕ))) (n : Name) → R x (Ok n) → vec_items n.octets ≡ x.now.now) where
-  one_copied : (names : List (Bor (List ℕ))) (k : ℕ) (made : Option (Result Name AllocError)) (lent : Option (Bor (Bor (List ℕ)))) (n : Name) → k < length names → IsSomeRelated (λ x y. Ok y ≡ x) made n → IfSome made (λ y. IsSomeAnd lent (λ x. R x y)) → IfSome lent (λ x. HoldsAt (λ y. x.now ≡ y) names k) → vec_items n.octets ≡ get_or (lent_names names) k []
+module _ {X S T : Type 0} (f : X → List ℕ) {steps : S → Option (Result Name AllocError) → S → Type 0} {source : T → Option (Bor X) → T → Type 0} (p : Run steps) (q : Run source) (R : Bor X → Result Name AllocError → Type 0) (copies : (x : Bor X) (n : Name) → R x (Ok n) → vec_items n.octets ≡ f x.now) where
+  one_copied : (names : List X) (k : ℕ) (made : Option (Result Name AllocError)) (lent : Option (Bor X)) (n : Name) → k < length names → IsSomeRelated (λ x y. Ok y ≡ x) made n → IfSome made (λ y. IsSomeAnd lent (λ x. R x y)) → IfSome lent (λ x. HoldsAt (λ y. x.now ≡ y) names k) → vec_items n.octets ≡ get_or (names_of f names) k []
   one_copied names k None lent n within is made at = absurd is
   one_copied names k (Some r) None n within is made at = absurd made
   one_copied names k (Some r) (Some x) n within is made at =
-      copies x n (subst (R x) (sym is) made) ∙ ap (λ y. y.now) (at x.now) ∙ sym (get_or-map (λ y. y.now) names k x.now [] within)
+      copies x n (subst (R x) (sym is) made) ∙ ap f (at x.now) ∙ sym (get_or-map f names k x.now [] within)
 
-  -- the names that were collected, each made of the lent one at its place
-  pub copied : (names : List (Bor (List ℕ))) (ns : List Name) → length ns ≡ p.len → p.len ≡ length names → ((k : ℕ) (d : Name) → k < p.len → IsSomeRelated (λ x y. Ok y ≡ x) (p.at k) (get_or ns k d)) → RelatesRuns p q R → ((k : ℕ) → IfSome (q.at k) (λ x. HoldsAt (λ y. x.now ≡ y) names k)) → own_names ns ≡ lent_names names
+  -- the names that were collected, each made of the one at its place
+  pub copied : (names : List X) (ns : List Name) → length ns ≡ p.len → p.len ≡ length names → ((k : ℕ) (d : Name) → k < p.len → IsSomeRelated (λ x y. Ok y ≡ x) (p.at k) (get_or ns k d)) → RelatesRuns p q R → ((k : ℕ) → IfSome (q.at k) (λ x. HoldsAt (λ y. x.now ≡ y) names k)) → own_names ns ≡ names_of f names
   copied names ns long len each made at =
-      ext_get_or [] (own_names ns) (lent_names names) (omega (arith, names_length (λ n. vec_items n.octets) ns, names_length (λ n. n.now) names)) (λ k h.
+      ext_get_or [] (own_names ns) (names_of f names) (omega (arith, names_length (λ n. vec_items n.octets) ns, names_length f names)) (λ k h.
       let within : k < length ns = omega (arith, names_length (λ n. vec_items n.octets) ns) in
       let n = element ns k within in
       get_or-map (λ n. vec_items n.octets) ns k n [] within ∙ one_copied names k (p.at k) (q.at k) (get_or ns k n) (omega arith) (each k n (omega arith)) (made.1 k) (at k))

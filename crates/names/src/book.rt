@@ -1,11 +1,12 @@
 // The book of DNN names, which numbers them from 1.
 ghost use Rattle.std.specs.Prelude.{◌≡◌, ◌<◌, length, IfOk, Decides, MatchResult};
-ghost use Rattle.names.specs.Names.{Numbers, Follows, FollowsEarlier, GoodNames};
+ghost use Rattle.names.specs.Names.{names_of, Numbers, Follows, FollowsEarlier, GoodNames};
 ghost use Rattle.names.specs.OwnNames.{own_names, lent_names, Made, Unmade};
 
 use crate::name::{Name, place_in};
 use codes::{DnnNumber, Refusal, SetupError};
 use std::alloc::{AllocError, Global};
+use std::convert::AsSlice;
 
 #[derive(Drop)]
 pub struct Book {
@@ -46,12 +47,12 @@ fn copy_name(heap: Global, name: &[u8]) -> Result<Name, AllocError>
 }
 
 // Names of their own with the same octets.
-fn copy_names(heap: Global, names: &[&[u8]]) -> Result<Vec<Name>, AllocError>
-    ensures { IfOk result (λ v. own_names v.items ≡ lent_names names.now) }
+fn copy_names<N: AsSlice<u8>>(heap: Global, names: &[N]) -> Result<Vec<Name>, AllocError>
+    ensures { IfOk result (λ v. own_names v.items ≡ names_of N.AsSlice.items names.now) }
 {
     names
         .iter()
-        .map(|name| copy_name(heap, name))
+        .map(|name| copy_name(heap, name.as_slice()))
         .try_collect(heap)
 }
 
@@ -72,6 +73,14 @@ impl Book {
         ensures { Numbers (own_names self.now.names.items) octets.now result }
     {
         place_in(self.names.as_slice(), octets).map_or(0, |i| (i + 1) as DnnNumber)
+    }
+
+    // A book of its own with the same names.
+    pub fn try_clone(&self, heap: Global) -> Result<Book, AllocError>
+        ensures { IfOk result (λ b. own_names b.names.items ≡ own_names self.now.names.items) }
+    {
+        let names = copy_names(heap, self.names.as_slice())?;
+        Ok(Book { names })
     }
 
     // How many names there are.

@@ -13,7 +13,7 @@ use Rattle.nas.proofs.Encoded.{Fine}
 
 -- ---- what was not refused passed each test
 
-then_ok : {X Y : Type 0} (r : Result X ℕ) (f : X → Result Y ℕ) (y : Y) → then r f ≡ Ok y → (x : X) × (r ≡ Ok x) × (f x ≡ Ok y)
+pub then_ok : {X Y : Type 0} (r : Result X ℕ) (f : X → Result Y ℕ) (y : Y) → then r f ≡ Ok y → (x : X) × (r ≡ Ok x) × (f x ≡ Ok y)
 then_ok (Ok x) f y h = (x, refl, h)
 then_ok (Err n) f y h = absurd (cc)
 
@@ -21,7 +21,7 @@ unless_ok : {X : Type 0} (b : Bool) (n : ℕ) (r : Result X ℕ) (x : X) → con
 unless_ok true n r x h = absurd (cc)
 unless_ok false n r x h = (refl, h)
 
-if_ok : {X : Type 0} (b : Bool) (n : ℕ) (r : Result X ℕ) (x : X) → cond b r (Err n) ≡ Ok x → (b ≡ true) × (r ≡ Ok x)
+pub if_ok : {X : Type 0} (b : Bool) (n : ℕ) (r : Result X ℕ) (x : X) → cond b r (Err n) ≡ Ok x → (b ≡ true) × (r ≡ Ok x)
 if_ok true n r x h = (refl, h)
 if_ok false n r x h = absurd (cc)
 

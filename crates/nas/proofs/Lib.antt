@@ -3,3 +3,4 @@ pub mod Encoded
 pub mod Accepted
 pub mod Laws
 pub mod Fronts
+pub mod Bounds

@@ -11,11 +11,11 @@ use Rattle.printing.specs.Slice.{slice_octets}
 use Rattle.playing.specs.Lines.{or_dash, message_line}
 
 -- a value that may be absent, as it is shown
-dashed : {X Y : Type 0} (text : Y → List ℕ) (of : X → Y) (o : Option X) (p : Option Y) → option_map of o ≡ p → shown_or_dash (λ x. Some (text (of x))) o ≡ Some (or_dash text p)
+pub dashed : {X Y : Type 0} (text : Y → List ℕ) (of : X → Y) (o : Option X) (p : Option Y) → option_map of o ≡ p → shown_or_dash (λ x. Some (text (of x))) o ≡ Some (or_dash text p)
 dashed text of None p e = ap (λ q. Some (or_dash text q)) e
 dashed text of (Some x) p e = ap (λ q. Some (or_dash text q)) e
 
-mapped_same : {X : Type 0} (o : Option X) → option_map (λ x. x) o ≡ o
+pub mapped_same : {X : Type 0} (o : Option X) → option_map (λ x. x) o ≡ o
 mapped_same None = refl
 mapped_same (Some x) = refl
 

@@ -1,1 +1,5 @@
-pub mod Cases
+pub mod Failing
+pub mod Deciding
+pub mod Tickets
+pub mod Bounds
+pub mod Accepting

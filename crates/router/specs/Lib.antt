@@ -1,4 +1,5 @@
-pub mod Inquiries
-pub mod Receives
-pub mod Accounts
-pub mod TenCases
+pub mod Buffers
+pub mod Fits
+pub mod Views
+pub mod Receiving
+pub mod Openings

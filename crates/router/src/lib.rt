@@ -1,9 +1,20 @@
-// The router of NAS payloads: what its host tells it, and how a message is judged.
+// The router of NAS payloads: which SMF each goes to, and what becomes of it.
 #![tactic(auto)]
 
-mod ten_cases;
-mod uplink_inquiry;
+mod admission;
+mod answer;
+mod pool;
+mod reading;
+mod returning;
+mod router;
+mod settling;
+mod ticket;
+mod unopened;
 
+pub use answer::{Answer, Delivery};
+pub use pool::POOL_LENGTH;
 pub use records::{Configuration, KnownLine, SubscriptionLine, UeRecord};
-pub use uplink_inquiry::inquiry;
-pub use verdicts::{Decision, Inquiry, Verdict, judge};
+pub use router::Router;
+pub use ticket::Ticket;
+pub use unopened::Unopened;
+pub use verdicts::{Decision, Verdict};

@@ -16,6 +16,8 @@ mod played_lines;
 #[cfg(test)]
 mod printed_values;
 #[cfg(test)]
+mod router_calls;
+#[cfg(test)]
 mod scenario_words;
 #[cfg(test)]
 mod smf_directories;

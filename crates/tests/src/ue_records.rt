@@ -1,4 +1,5 @@
 // UE records and configurations at their edges, and a message that is judged from its octets on.
+use accounts::*;
 use codes::*;
 use control::*;
 use directories::*;
@@ -6,7 +7,6 @@ use grid::*;
 use names::*;
 use nas::*;
 use records::*;
-use router::*;
 use std::test::Fail;
 
 const SLICE: SliceCode = 0x01_FF_FF_FF;

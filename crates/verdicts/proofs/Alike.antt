@@ -48,9 +48,15 @@ module _ (xs ys : List Context) (h : (u k : ℕ) → lookup xs u k ≡ lookup ys
   unfolding ruling_with
   same_ruling back_off o u = λ i. first_with (awaits o i) (limit i) (urgent i) back_off o u
 
+pub ruling_alike : (c : Case) (ys : List Context) → ((u k : ℕ) → lookup ys u k ≡ lookup c.contexts u k) → ruling c ≡ ruling (over ys c)
+ruling_alike c ys h =
+    let a = c.asked in
+    let o : standing c ≡ standing (over ys c) = sym (h a.ue.number a.session) in
+    same_ruling c.contexts ys (λ u k. sym (h u k)) a c.back_off (standing c) (used a (standing c)) ∙ (λ i. ruling_with a ys c.back_off (o i) (used a (o i)))
+
 pub alike : (c : Case) (ys : List Context) (opened : Bool) (m : Option ℕ) → ((u k : ℕ) → lookup ys u k ≡ lookup c.contexts u k) → verdict c opened m ≡ verdict (over ys c) opened m
 alike c ys opened m h =
     let a = c.asked in
     let o : standing c ≡ standing (over ys c) = sym (h a.ue.number a.session) in
-    let r : ruling c ≡ ruling (over ys c) = same_ruling c.contexts ys (λ u k. sym (h u k)) a c.back_off (standing c) (used a (standing c)) ∙ (λ i. ruling_with a ys c.back_off (o i) (used a (o i))) in
+    let r : ruling c ≡ ruling (over ys c) = ruling_alike c ys h in
     λ i. record { used = used a (o i); decision = decision (r i).outcome opened m; release = (r i).release }

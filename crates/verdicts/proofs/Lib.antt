@@ -4,3 +4,4 @@ pub mod Lawful
 pub mod Using
 pub mod Alike
 pub mod Bounded
+pub mod Replaced

@@ -8,7 +8,7 @@ use Rattle.names.proofs.Naming.{copied}
 use Rattle.names.proofs.book.copy_names.Goals as goal
 
 pub returns : goal.returns
-returns c =
+returns g c =
     IfOk-weaker c.try_collect.result _ _ (λ v run.
     let p = run.0 in
     let mapped = c.map.ensures.runs p p.seen run.1 in
@@ -17,4 +17,4 @@ returns c =
     let made = run.3 (λ xs v x w a b. search (rules, length-append)) in
     let same = mapped.2.2 (λ x r f k. search (rules, tests)) in
     let long = lent.1 (mapped.2.0 ∙ run.2) in
-    ap own_names made.1.0 ∙ copied p q _ (λ x n k. search (rules, tests)) c.args.names.now made.0 made.2 (mapped.2.1 ∙ long) made.3 same lent.3) c.try_collect.ensures.runs
+    ap own_names made.1.0 ∙ copied g.N.AsSlice.items p q _ (λ x n k. search (rules, tests)) c.args.names.now made.0 made.2 (mapped.2.1 ∙ long) made.3 same lent.3) c.try_collect.ensures.runs

@@ -1,0 +1,4 @@
+pub mod Inquiries
+pub mod Receives
+pub mod Accounts
+pub mod TenCases

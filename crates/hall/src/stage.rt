@@ -1,0 +1,77 @@
+// What there is while a scenario is played, besides the router that is open.
+ghost use Rattle.std.specs.Prelude.{IfSome};
+ghost use Rattle.hall.specs.Asked.{wanted};
+ghost use Rattle.hall.specs.Effects.{OutcomeFor};
+ghost use Rattle.hall.specs.Ends.{outcome_of};
+
+use crate::change::Change;
+use crate::hall::Hall;
+use crate::not_done::NotDone;
+use crate::opening::Opening;
+use bumpalo::Bump;
+use control::{ControlRow, ControlTable};
+use hosts::UeRegister;
+use std::alloc::AllocError;
+
+// How many rows the control table has where none was asked for.
+const USUAL_ROWS: usize = 64;
+
+#[derive(Drop)]
+pub(crate) struct Stage<'a> {
+    pub(crate) rt: &'a HostRuntime,
+    // Where the rows of every control table stand: a new table comes while the router goes on, so neither can be made inside the other's scope.
+    space: &'a Bump,
+    pub(crate) hall: Hall,
+    pub(crate) table: ControlTable<'a>,
+    pub(crate) ues: UeRegister,
+    // The router that is to be opened next.
+    pub(crate) wanted: Option<Opening>,
+}
+
+// An empty table; none for a number of rows that no table has.
+fn make_table<'a>(space: &'a Bump, rows: usize) -> Result<Option<ControlTable<'a>>, AllocError> {
+    let free = [ControlRow::free(); 64];
+    let rows = space.try_alloc_slice_copy(&free[..rows.min(64)])?;
+    let Ok(table) = ControlTable::new(rows) else {
+        return Ok(None);
+    };
+    Ok(Some(table))
+}
+
+impl<'a> Stage<'a> {
+    // Nothing but an empty control table.
+    pub(crate) fn new(
+        rt: &'a HostRuntime,
+        space: &'a Bump,
+    ) -> Result<Option<Stage<'a>>, AllocError> {
+        let Some(table) = make_table(space, USUAL_ROWS)? else {
+            return Ok(None);
+        };
+        Ok(Some(Stage {
+            rt,
+            space,
+            hall: Hall::new(),
+            table,
+            ues: UeRegister::new(rt.alloc()),
+            wanted: None,
+        }))
+    }
+
+    // Does what a command asks for in the hall, where it can be done.
+    pub(crate) fn apply(&mut self, change: &Change) -> Result<(), NotDone>
+        ensures { IfSome (outcome_of result) (λ o. OutcomeFor self.old.hall.directory self.old.table.table.rows.now (wanted change.now) o) }
+    {
+        self.hall.apply(self.rt.alloc(), &mut self.table, change)
+    }
+
+    // Makes the control table that is wanted, if one is.
+    pub(crate) fn renew_table(&mut self) -> Result<(), AllocError> {
+        let Some(rows) = self.hall.take_wanted_rows() else {
+            return Ok(());
+        };
+        if let Some(table) = make_table(self.space, rows)? {
+            self.table = table;
+        }
+        Ok(())
+    }
+}

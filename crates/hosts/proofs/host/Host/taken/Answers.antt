@@ -1,0 +1,14 @@
+use Rattle.std.proofs.Common.{[]}
+use Rattle.router.specs.Views.{model}
+use Rattle.hosts.proofs.Calls.{taken_left, taken_refused}
+use Rattle.hosts.proofs.Holding.{taken_out}
+use Rattle.hosts.proofs.host.Host.taken.Goals as goal
+
+pub invariant_of-self-2 : goal.invariant_of-self-2
+invariant_of-self-2 g c = record {
+  held = taken_left (model c.args.self.now.router []) (model c.taken.new.self []) c.in-Some.ticket c.take.new.self.held.items (taken_out c.args.self.now.router.flights.slots _ _ _ c.args.self.now.held c.in-Some.ensures.taken) _ (c.taken.ensures.does []);
+}
+
+pub unreachable-requires : goal.unreachable-requires
+unreachable-requires g c =
+    taken_refused (model c.args.self.now.router []) (model c.taken.new.self []) c.in-Some.ticket c.take.new.self.held.items (taken_out c.args.self.now.router.flights.slots _ _ _ c.args.self.now.held c.in-Some.ensures.taken) _ (c.in-Err.ensures.does [])

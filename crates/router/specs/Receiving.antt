@@ -1,0 +1,131 @@
+-- Receiving a message: what is handed in and what is answered, in the words of the definitions.
+use Rattle.std.specs.Prelude.{◌≡◌, ℕ, ◌+◌, ◌<◌, ◌≤◌, Bool, true, false, List, [], is_some, length, Some, None, Ok, Err, Option, Result, option_map, take}
+use Rattle.accounts.specs.Receives.{Received, Answer, received, case_on}
+use Rattle.codes.specs.declared.refusal.Refusal.{Refusal}
+use Rattle.control.specs.declared.control_row.ControlRow.{ControlRow}
+use Rattle.control.specs.Lines.{back_off_of}
+use Rattle.directories.specs.declared.directory.Directory.{Ghosts}
+use Rattle.directories.specs.Choices.{Chosen}
+use Rattle.nas.specs.Uplinks.{Message, in_range, read}
+use Rattle.nas.specs.declared.uplink.Uplink.{Uplink}
+use Rattle.nas.specs.Views.{decoded}
+use Rattle.records.specs.declared.ue_record.UeRecord.{UeRecord}
+use Rattle.records.specs.Records.{Ue, plain, record_fits}
+use Rattle.codes.specs.RequestTypes.{request_number}
+use Rattle.flights.specs.Slots.{at}
+use Rattle.router.specs.declared.admission.Admission.{Admission}
+use Rattle.router.specs.declared.answer.Answer as code
+use Rattle.router.specs.declared.answer.Delivery.{Delivery}
+use Rattle.router.specs.declared.answer.Delivery.TheVariants.{Forwarded, Returned}
+use Rattle.verdicts.specs.declared.verdict.Verdict.{Verdict}
+use Rattle.verdicts.specs.Laws.{answer_of, choice_of}
+use Rattle.verdicts.specs.Verdicts.{smf_of}
+use Rattle.verdicts.specs.Rules.{ruling}
+use Rattle.verdicts.specs.Rulings.{asks_directory}
+use Rattle.router.specs.Buffers.{FrontWritten}
+use Rattle.router.specs.Views.{shown, token}
+use Rattle.runs.specs.Calls.{flight}
+use Rattle.runs.specs.Models.{Model, Token, state}
+
+-- the message of an admission, or the number of the refusal
+abbrev pub admitted_message : Result Admission Refusal → Result Message ℕ
+admitted_message a = shown (λ x. decoded x.uplink) (λ e. e) a
+
+-- what the checks make of a message of this UE, with a pool and an output of these lengths. They ask neither of control lines nor of a directory.
+abbrev pub received_of : Model → Ue → ℕ → ℕ → List ℕ → Result Message ℕ
+received_of m ue pool output octets =
+    received m.core (state m) (record { ue = ue; back_off = λ k. None; is_open = false; serves = λ s d n. false; pool = pool; output = output; octets = octets })
+
+-- ---- the answer
+
+-- the octets that a delivery left in the output
+abbrev pub written_to : List ℕ → Delivery → List ℕ
+written_to output (Forwarded t) = []
+written_to output (Returned n) = take n output
+
+abbrev pub told : List ℕ → code.Answer → Answer
+told output a = record {
+  number = a.number;
+  old_session = a.old_session;
+  request = option_map request_number a.request_type;
+  verdict = a.verdict;
+  octets = written_to output a.delivery;
+}
+
+-- the ticket that is given, if one is
+abbrev pub ticket_in : Delivery → Option Token
+ticket_in (Forwarded t) = Some (token t)
+ticket_in (Returned n) = None
+
+abbrev pub ticket_of : Result code.Answer Refusal → Option Token
+ticket_of (Ok a) = ticket_in a.delivery
+ticket_of (Err e) = None
+
+-- the ticket is open here, if one is given
+abbrev pub IsOpen : Model → Delivery → Type 0
+IsOpen m (Forwarded t) = is_some (flight m (token t)) ≡ true
+IsOpen m (Returned n) = Unit {0}
+
+-- the output is as it was, or its first octets were written
+abbrev pub OutputAfter : List ℕ → List ℕ → Delivery → Type 0
+OutputAfter before after (Forwarded t) = after ≡ before
+OutputAfter before after (Returned n) = FrontWritten n before after
+
+-- ---- the directory
+
+-- it has to choose for the message that was read, if one was
+abbrev pub asks : Model → Received → Result Message ℕ → Bool
+asks m r (Ok x) = asks_directory (ruling (case_on m.core m.contexts r x)).outcome
+asks m r (Err e) = false
+
+-- the SMF that it chose, by the verdict on that message
+abbrev pub choice_for : Model → Received → Verdict → Result Message ℕ → Option ℕ
+choice_for m r v (Ok x) = choice_of (ruling (case_on m.core m.contexts r x)).outcome v.decision
+choice_for m r v (Err e) = None
+
+-- by the answer
+abbrev pub chosen_in : Model → Received → Result Answer ℕ → Option ℕ
+chosen_in m r (Ok a) = choice_for m r a.verdict (read r.octets)
+chosen_in m r (Err e) = None
+
+-- What becomes of a directory: where it has to choose, its choice is one that it may take, and it is what that choice leaves; else it is as it
+-- was. Who serves and whether it is open never changes.
+pub record Consulted {D : Type 0} (g : Ghosts D) (asked : Bool) (v : Verdict) (before after : D) : Type 0 where
+  pub choice : asked ≡ true → Chosen (g.opened before) (g.serves before v.used.slice v.used.dnn) (g.takes before v.used.slice v.used.dnn) (answer_of (g.opened before) (smf_of v.decision))
+  pub turn : asked ≡ true → g.turned before v.used.slice v.used.dnn (answer_of (g.opened before) (smf_of v.decision)) after
+  pub unasked : asked ≡ false → after ≡ before
+  pub opening : g.opened after ≡ g.opened before
+  pub serving : (s n m : ℕ) → g.serves after s n m ≡ g.serves before s n m
+
+-- what a receive is handed, with buffers by their lengths and a directory by its meaning
+abbrev pub handed_by : {D : Type 0} → Ghosts D → UeRecord → List ControlRow → D → ℕ → ℕ → List ℕ → Received
+handed_by g ue rows directory pool output octets =
+    record { ue = plain ue; back_off = back_off_of rows; is_open = g.opened directory; serves = g.serves directory; pool = pool; output = output; octets = octets }
+
+-- what is judged: of buffers nothing is asked
+abbrev pub judged_by : {D : Type 0} → Ghosts D → UeRecord → List ControlRow → D → Received
+judged_by g ue rows directory = handed_by g ue rows directory 0 0 []
+
+-- what a receive answers, by the output that it left
+abbrev pub answer_in : List ℕ → Result code.Answer Refusal → Result Answer ℕ
+answer_in output a = shown (told output) (λ e. e) a
+
+-- ---- what the checks found
+
+-- what holds of every message that is read
+pub record Fitting (u : Uplink) : Type 0 where
+  pub some : 0 < length u.payload.now
+  pub few : length u.payload.now ≤ 2048
+  pub session : in_range u.session ≡ true
+
+-- the admission a of a message that passed them, of this UE, with a pool and an output of these lengths
+pub record Admitted (m : Model) (ue : Ue) (pool output : ℕ) (a : Admission) : Type 0 where
+  pub ue_in : record_fits (length m.core.names) ue ≡ true
+  pub pool_is : pool ≡ 32768
+  pub fitting : Fitting a.uplink
+  pub output_has : length a.uplink.payload.now + 13 ≤ output
+  pub room : m.room ue.number a.uplink.session ≡ true
+  pub number : a.number ≡ m.next
+  pub next : m.next ≤ 4294967295
+  pub slot : a.slot < 16
+  pub free : at m.flights a.slot ≡ None

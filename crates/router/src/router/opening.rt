@@ -1,0 +1,59 @@
+// Opening a router.
+ghost use Rattle.std.specs.Prelude.{◌≡◌, ℕ, List, IfOk, MatchResult, true};
+ghost use Rattle.names.specs.OwnNames.{own_names};
+ghost use Rattle.router.specs.Openings.{opening, opening_fits, NotOpened};
+ghost use Rattle.router.specs.Views.{model};
+ghost use Rattle.runs.specs.Runs.{Opened};
+
+use super::Router;
+use crate::unopened::Unopened;
+use codes::{Refusal, SetupError};
+use flights::Flights;
+use names::Book;
+use records::Configuration;
+use std::alloc::Global;
+use stores::Store;
+
+// A copy of the book, if a router can be opened.
+fn copied<S: Store>(
+    heap: Global,
+    book: &Book,
+    configuration: Configuration,
+    first: u32,
+    store: &S,
+) -> Result<Book, SetupError>
+    ensures names { IfOk result (λ b. own_names b.names.items ≡ own_names book.now.names.items) }
+    ensures fits { MatchResult result (λ b. opening_fits (opening book.now configuration first) (S.Store.contexts store.now) ≡ true) (λ e. NotOpened (opening_fits (opening book.now configuration first) (S.Store.contexts store.now)) e) }
+{
+    configuration.check(book)?;
+    if first == 0 || !store.is_empty() {
+        return Err(SetupError::from(Refusal::Opening));
+    }
+    Ok(book.try_clone(heap)?)
+}
+
+impl<'a, S: Store> Router<'a, S> {
+    // A router over an empty store, which it alone writes from now on. The book is copied.
+    pub(super) fn begin(
+        heap: Global,
+        book: &Book,
+        configuration: Configuration,
+        first: u32,
+        store: &'a mut S,
+    ) -> Result<Router<'a, S>, Unopened<'a, S>>
+        ensures opened { IfOk result (λ r. (p : List ℕ) → Opened (opening book.now configuration first) (model r p)) }
+        ensures fits { MatchResult result (λ r. opening_fits (opening book.now configuration first) (S.Store.contexts store.old) ≡ true) (λ u. NotOpened (opening_fits (opening book.now configuration first) (S.Store.contexts store.old)) u.error) }
+        ensures store { MatchResult result (λ r. r.store ≡ store.entry) (λ u. u.store ≡ store.entry) }
+    {
+        match copied(heap, book, configuration, first, store) {
+            Ok(book) => Ok(Router {
+                store,
+                book,
+                configuration,
+                flights: Flights::new(),
+                next: u64::from(first),
+            }),
+            Err(error) => Err(Unopened { error, store }),
+        }
+    }
+}

@@ -1,0 +1,248 @@
+// What a receive does.
+ghost use Rattle.std.specs.Prelude.{◌≡◌, ℕ, [], ◌≤◌, ◌<◌, List, MatchResult, is_some, ◌+◌, length, IfOk, Some, None, Ok, true, false};
+ghost use Rattle.accounts.specs.Receives.{case_on, answer_to, reserved, returned_with, verdict_on};
+ghost use Rattle.flights.specs.Slots.{at, in_hand};
+ghost use Rattle.flights.specs.declared.flight.Mark.TheVariants.{InHand};
+ghost use Rattle.nas.specs.Uplinks.{in_range, read};
+ghost use Rattle.nas.specs.Views.{decoded, octets};
+ghost use Rattle.records.specs.Records.{plain, record_fits};
+ghost use Rattle.router.specs.Fits.{flight_fits};
+ghost use Rattle.router.specs.Receiving.{Admitted, asks, choice_for, Consulted, answer_in, chosen_in, ticket_of, admitted_message, received_of, handed_by, judged_by, IsOpen, OutputAfter, ticket_in, told, Fitting, written_to};
+ghost use Rattle.router.specs.Views.{SameStore, core, model, shown};
+ghost use Rattle.runs.specs.Models.{state};
+ghost use Rattle.nas.specs.Uplinks as uplinks;
+ghost use Rattle.runs.specs.Calls.{Accepted, Delivered, flight_of, PlacedIn, RightChoice, Receives};
+ghost use Rattle.runs.specs.Entries as entry;
+ghost use Rattle.stores.specs.Contexts.{fits};
+ghost use Rattle.stores.specs.declared.context.Context as code;
+ghost use Rattle.verdicts.specs.Laws.{answer_of, Judged};
+ghost use Rattle.verdicts.specs.Verdicts.{context_of, smf_of};
+
+use super::Router;
+use crate::admission::Admission;
+use crate::answer::{Answer, Delivery};
+use crate::pool::{POOL_LENGTH, fill_slot};
+use crate::reading::read_fitting;
+use crate::returning::return_payload;
+use crate::settling::settle;
+use crate::ticket::Ticket;
+use accounts::inquiry;
+use codes::{Refusal, UeNumber};
+use control::ControlTable;
+use directories::Directory;
+use flights::Flight;
+use nas::{RETURN_OVERHEAD, Uplink};
+use records::UeRecord;
+use stores::{PduSession, Store};
+use verdicts::{Decision, Verdict, judge};
+
+impl<'a, S: Store> Router<'a, S> {
+    // The next number and a free slot for a session that has no payload in flight. Nothing is changed yet.
+    fn reserve(&self, session: PduSession) -> Result<(u32, usize), Refusal>
+        ensures value { (x : uplinks.Message) → shown (λ _. x) (λ e. e) result ≡ reserved (state (model self.now [])) session.ue session.id x }
+        ensures number { IfOk result (λ r. r.0 ≡ self.now.next) }
+        ensures slot { IfOk result (λ r. (r.1 < 16) × (at self.now.flights.slots r.1 ≡ None)) }
+        ensures room { IfOk result (λ r. S.Store.room self.now.store.now session.ue session.id ≡ true) }
+        ensures next { IfOk result (λ r. self.now.next ≤ 4294967295) }
+    {
+        if self.flights.has(session) {
+            return Err(Refusal::PairInFlight);
+        }
+        let slot = self.flights.free_slot().ok_or(Refusal::FlightsFull)?;
+        if !self.store.has_room(session) {
+            return Err(Refusal::NoRoom);
+        }
+        let number = u32::try_from(self.next).or(Err(Refusal::NumbersSpent))?;
+        Ok((number, slot))
+    }
+
+    // The message, if it is accepted.
+    fn admit<'m>(
+        &self,
+        ue: UeRecord<'_>,
+        pool: &[u8],
+        output: &[u8],
+        message: &'m [u8],
+    ) -> Result<Admission<'m>, Refusal>
+        ensures value { admitted_message result ≡ received_of (model self.now pool.now) (plain ue.entry) (length pool.now) (length output.now) message.now }
+        ensures reads { IfOk result (λ a. read message.now ≡ Ok (decoded a.uplink)) }
+        ensures admitted { IfOk result (λ a. Admitted (model self.now pool.now) (plain ue.entry) (length pool.now) (length output.now) a) }
+    {
+        ue.check(&self.book)?;
+        if pool.len() != POOL_LENGTH {
+            return Err(Refusal::PoolLength);
+        }
+        let uplink = read_fitting(message)?;
+        if output.len() < uplink.payload.len() + RETURN_OVERHEAD {
+            return Err(Refusal::OutputLength);
+        }
+        let session = PduSession {
+            ue: ue.number,
+            id: uplink.session,
+        };
+        let (number, slot) = self.reserve(session)?;
+        Ok(Admission {
+            uplink,
+            number,
+            slot,
+        })
+    }
+
+    // The verdict on a message that is accepted.
+    fn judge<D: Directory>(
+        &self,
+        uplink: &Uplink<'_>,
+        ue: UeRecord<'_>,
+        controls: &ControlTable<'_>,
+        directory: &mut D,
+    ) -> Verdict
+        ensures judged { Judged (case_on (core self.now) (S.Store.contexts self.now.store.now) (judged_by D.Directory ue.entry controls.now.table.rows.now directory.old) (decoded uplink.now)) (D.Directory.opened directory.old) (D.Directory.serves directory.old) (D.Directory.takes directory.old) result }
+        ensures unasked { asks (model self.now []) (judged_by D.Directory ue.entry controls.now.table.rows.now directory.old) (Ok (decoded uplink.now)) ≡ false → directory.new ≡ directory.old }
+        ensures turn { asks (model self.now []) (judged_by D.Directory ue.entry controls.now.table.rows.now directory.old) (Ok (decoded uplink.now)) ≡ true → D.Directory.turned directory.old result.used.slice result.used.dnn (answer_of (D.Directory.opened directory.old) (smf_of result.decision)) directory.new }
+        ensures opening { D.Directory.opened directory.new ≡ D.Directory.opened directory.old }
+        ensures serving { (s n m : ℕ) → D.Directory.serves directory.new s n m ≡ D.Directory.serves directory.old s n m }
+    {
+        let inquiry = inquiry(uplink, ue, self.configuration, &self.book);
+        judge(&inquiry, self.store, controls, directory)
+    }
+
+    // The same, in the words of a receive.
+    fn decide<D: Directory>(
+        &self,
+        uplink: &Uplink<'_>,
+        ue: UeRecord<'_>,
+        controls: &ControlTable<'_>,
+        directory: &mut D,
+    ) -> Verdict
+        requires ue_in { record_fits (length (core self.now).names) (plain ue) ≡ true }
+        requires session { in_range uplink.now.session ≡ true }
+        ensures value { let r = judged_by D.Directory ue.entry controls.now.table.rows.now directory.old in result ≡ verdict_on (core self.now) (S.Store.contexts self.now.store.now) r (choice_for (model self.now []) r result (Ok (decoded uplink.now))) (decoded uplink.now) }
+        ensures choice { let r = judged_by D.Directory ue.entry controls.now.table.rows.now directory.old in RightChoice (core self.now) (S.Store.contexts self.now.store.now) r (choice_for (model self.now []) r result (Ok (decoded uplink.now))) (decoded uplink.now) }
+        ensures directory { Consulted D.Directory (asks (model self.now []) (judged_by D.Directory ue.entry controls.now.table.rows.now directory.old) (Ok (decoded uplink.now))) result directory.old directory.new }
+        ensures bounded { (c : code.Context) → context_of result ue.entry.number uplink.now.session ≡ Some c → fits c ≡ true }
+    {
+        self.judge(uplink, ue, controls, directory)
+    }
+
+    // The payload stands in the free slot, and its flight with it.
+    #[tactic(auto, using(crate::proofs::Tickets::opened))]
+    fn place(&mut self, pool: &mut [u8], slot: usize, payload: &[u8], flight: Flight) -> Ticket
+        requires whole { length pool.old ≡ 32768 }
+        requires slot { slot < 16 }
+        requires free { at self.old.flights.slots slot ≡ None }
+        requires payload { length payload.now ≤ 2048 }
+        requires fits { flight_fits flight ≡ true }
+        requires in_hand { flight.mark ≡ InHand }
+        ensures placed { PlacedIn result.slot flight payload.now (model self.old pool.old) (model self.new pool.new) }
+        ensures given { (result.number ≡ flight.number) × (is_some (in_hand self.new.flights.slots flight.number result.slot) ≡ true) }
+        ensures same { (self.new.store ≡ self.old.store) × (core self.new ≡ core self.old) × (self.new.next ≡ self.old.next) }
+    {
+        fill_slot(pool, slot, payload);
+        self.flights.open(slot, flight);
+        Ticket {
+            number: flight.number,
+            slot,
+        }
+    }
+
+    // Where a message that is accepted goes: into its slot, or to the output.
+    fn deliver(
+        &mut self,
+        pool: &mut [u8],
+        output: &mut [u8],
+        admission: &Admission<'_>,
+        ue: UeNumber,
+        verdict: Verdict,
+    ) -> Delivery
+        requires whole { length pool.old ≡ 32768 }
+        requires slot { admission.now.slot < 16 }
+        requires fitting { Fitting admission.now.uplink }
+        requires output { length admission.now.uplink.payload.now + 13 ≤ length output.old }
+        requires free { at self.old.flights.slots admission.now.slot ≡ None }
+        ensures delivered { Delivered (flight_of admission.now.number ue (decoded admission.now.uplink) verdict) admission.now.uplink.payload.now (smf_of verdict.decision) (ticket_in result) (model self.old pool.old) (model self.new pool.new) }
+        ensures octets { written_to output.new result ≡ returned_with (decoded admission.now.uplink) verdict.decision }
+        ensures output { OutputAfter output.old output.new result }
+        ensures ticket { IsOpen (model self.new pool.new) result }
+        ensures same { (self.new.store ≡ self.old.store) × (core self.new ≡ core self.old) × (self.new.next ≡ self.old.next) }
+    {
+        let uplink = admission.uplink;
+        match verdict.decision {
+            Decision::Forward(_) => Delivery::Forwarded(self.place(
+                pool,
+                admission.slot,
+                uplink.payload,
+                admission.flight(ue, false),
+            )),
+            Decision::Establish { .. } => {
+                Delivery::Forwarded(self.place(
+                    pool,
+                    admission.slot,
+                    uplink.payload,
+                    admission.flight(ue, true),
+                ))
+            }
+            Decision::Return(cause) => {
+                let Ok(length) = return_payload(output, uplink.payload, uplink.session, cause)
+                else {
+                    unreachable!()
+                };
+                Delivery::Returned { length }
+            }
+        }
+    }
+
+    // What a message that passed all checks comes to.
+    fn handle<D: Directory>(
+        &mut self,
+        admission: &Admission<'_>,
+        ue: UeRecord<'_>,
+        controls: &ControlTable<'_>,
+        directory: &mut D,
+        pool: &mut [u8],
+        output: &mut [u8],
+    ) -> Answer
+        requires admitted { Admitted (model self.old pool.old) (plain ue) (length pool.old) (length output.old) admission.now }
+        ensures accepted { (octets : List ℕ) → let r = handed_by D.Directory ue.entry controls.now.table.rows.now directory.old (length pool.old) (length output.old) octets in Accepted (model self.old pool.old) r (choice_for (model self.old pool.old) r result.verdict (Ok (decoded admission.now.uplink))) (ticket_in result.delivery) (decoded admission.now.uplink) (model self.new pool.new) }
+        ensures answer { (octets : List ℕ) → let r = handed_by D.Directory ue.entry controls.now.table.rows.now directory.old (length pool.old) (length output.old) octets in told output.new result ≡ answer_to (core self.old) self.old.next (S.Store.contexts self.old.store.now) r (choice_for (model self.old pool.old) r result.verdict (Ok (decoded admission.now.uplink))) (decoded admission.now.uplink) }
+        ensures output { OutputAfter output.old output.new result.delivery }
+        ensures ticket { IsOpen (model self.new pool.new) result.delivery }
+        ensures directory { Consulted D.Directory (asks (model self.old pool.old) (judged_by D.Directory ue.entry controls.now.table.rows.now directory.old) (Ok (decoded admission.now.uplink))) result.verdict directory.old directory.new }
+        ensures same_store { SameStore self.old self.new }
+    {
+        let uplink = &admission.uplink;
+        let verdict = self.decide(uplink, ue, controls, directory);
+        let session = PduSession {
+            ue: ue.number,
+            id: uplink.session,
+        };
+        settle(self.store, session, verdict);
+        let delivery = self.deliver(pool, output, admission, ue.number, verdict);
+        self.next += 1;
+        Answer {
+            number: admission.number,
+            old_session: uplink.old_session,
+            request_type: uplink.request_type,
+            verdict,
+            delivery,
+        }
+    }
+
+    pub(super) fn accept<D: Directory>(
+        &mut self,
+        ue: UeRecord<'_>,
+        controls: &ControlTable<'_>,
+        directory: &mut D,
+        pool: &mut [u8],
+        output: &mut [u8],
+        message: &[u8],
+    ) -> Result<Answer, Refusal>
+        ensures does { let r = handed_by D.Directory ue.entry controls.now.table.rows.now directory.old (length pool.old) (length output.old) message.now in let a = answer_in output.new result in Receives (model self.old pool.old) r (chosen_in (model self.old pool.old) r a) (ticket_of result) a (model self.new pool.new) }
+        ensures output { MatchResult result (λ a. OutputAfter output.old output.new a.delivery) (λ _. output.new ≡ output.old) }
+        ensures ticket { IfOk result (λ a. IsOpen (model self.new pool.new) a.delivery) }
+        ensures directory { MatchResult result (λ a. Consulted D.Directory (asks (model self.old pool.old) (judged_by D.Directory ue.entry controls.now.table.rows.now directory.old) (read message.now)) a.verdict directory.old directory.new) (λ _. directory.new ≡ directory.old) }
+        ensures same_store { SameStore self.old self.new }
+    {
+        let admission = self.admit(ue, pool, output, message)?;
+        Ok(self.handle(&admission, ue, controls, directory, pool, output))
+    }
+}

@@ -1,0 +1,18 @@
+// What a host holds of a payload in flight.
+ghost use Rattle.std.specs.Prelude.{◌≡◌};
+
+// Plain numbers, and no `Drop`: whoever has it can only give it to a call that takes it.
+#[derive(Debug)]
+pub struct Ticket {
+    pub(crate) number: u32,
+    // The slot of the pool that has the octets.
+    pub(crate) slot: usize,
+}
+
+impl Ticket {
+    pub fn number(&self) -> u32
+        ensures { result ≡ self.now.number }
+    {
+        self.number
+    }
+}

@@ -1,0 +1,20 @@
+// Why a router was not opened.
+ghost use Rattle.std.specs.Prelude.{◌≡◌};
+
+use codes::SetupError;
+use stores::Store;
+
+/// The store that was lent comes back as it was.
+#[derive(Drop)]
+pub struct Unopened<'a, S: Store> {
+    pub error: SetupError,
+    pub store: &'a mut S,
+}
+
+impl<'a, S: Store> From<Unopened<'a, S>> for SetupError {
+    ghost from_gives = { λ u e. e ≡ u.error };
+
+    fn from(unopened: Unopened<'a, S>) -> SetupError {
+        unopened.error
+    }
+}

@@ -1,0 +1,14 @@
+pub mod Lists
+pub mod Slots
+pub mod Judging
+pub mod Receiving
+pub mod Tickets
+pub mod Leaving
+pub mod Members
+pub mod Fates
+pub mod Invariant
+pub mod Places
+pub mod Payloads
+pub mod Told
+pub mod Whole
+pub mod Handed

@@ -1,0 +1,6 @@
+pub mod Models
+pub mod Entries
+pub mod Calls
+pub mod Runs
+pub mod Positions
+pub mod Laws
