@@ -4,7 +4,8 @@ use Rattle.codes.specs.declared.refusal.Refusal.{Refusal}
 use Rattle.codes.specs.declared.refusal.Refusal.TheVariants.{RecordBounds, PoolLength, OutputLength, PairInFlight, FlightsFull, NoRoom, NumbersSpent}
 use Rattle.control.specs.declared.control_key.ControlKey.{ControlKey}
 use Rattle.nas.specs.Returns.{returned}
-use Rattle.nas.specs.Uplinks.{Message, refuse, then, read}
+use Rattle.codes.specs.Refusals.{refuse}
+use Rattle.nas.specs.Uplinks.{Message, then, read}
 use Rattle.records.specs.declared.configuration.Configuration.{Configuration}
 use Rattle.records.specs.Records.{Ue, record_fits}
 use Rattle.stores.specs.declared.context.Context.{Context}

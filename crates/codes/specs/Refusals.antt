@@ -1,5 +1,5 @@
 -- The number of each refusal.
-use Rattle.std.specs.Prelude.{ℕ}
+use Rattle.std.specs.Prelude.{ℕ, Ok, Err, Result}
 use Rattle.codes.specs.declared.refusal.Refusal.{Refusal}
 use Rattle.codes.specs.declared.refusal.Refusal.TheVariants.{RecordBounds, PoolLength, Overrun, Header, PayloadType, PayloadLength, ElementLength, ElementKind, SessionBounds, UnknownRequest, OutputLength, PairInFlight, FlightsFull, NoRoom, NumbersSpent, Opening, UnknownTicket, NoContext, ControlKind, ControlFull}
 
@@ -24,3 +24,12 @@ refusal_number UnknownTicket = 17
 refusal_number NoContext = 18
 refusal_number ControlKind = 19
 refusal_number ControlFull = 20
+
+-- a result that is refused, by the number of the refusal
+abbrev pub refuse : {X : Type 0} → Refusal → Result X ℕ
+refuse r = Err (refusal_number r)
+
+-- what a call of the code gave, with a refusal by its number
+abbrev pub numbered : {X : Type 0} → Result X Refusal → Result X ℕ
+numbered (Ok x) = Ok x
+numbered (Err e) = Err (refusal_number e)

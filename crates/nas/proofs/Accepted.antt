@@ -7,7 +7,8 @@ use Rattle.std.proofs.lemmas.Bool.{cond-true, ltb-false}
 use Rattle.std.proofs.lemmas.Bool.Decides.{nat_tests}
 use Rattle.codes.specs.declared.refusal.Refusal.TheVariants.{ElementLength}
 use Rattle.nas.specs.Elements.{octet, pair, session_kind, octets_of_length, contents_length, Extent, element}
-use Rattle.nas.specs.Uplinks.{Parts, Message, nothing, refuse, checked_if, s_nssai, dnn_name, slice_length, slice_code, slice_in, dnn_length, dnn_in, noted, walk, then, header, read}
+use Rattle.codes.specs.Refusals.{refuse}
+use Rattle.nas.specs.Uplinks.{Parts, Message, nothing, checked_if, s_nssai, dnn_name, slice_length, slice_code, slice_in, dnn_length, dnn_in, noted, walk, then, header, read}
 use Rattle.nas.specs.Messages.{Ie, length_field, encoded, Formed, first_of, framed, Composed}
 use Rattle.nas.proofs.Encoded.{Fine}
 

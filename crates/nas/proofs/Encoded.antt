@@ -6,7 +6,8 @@ use Rattle.std.proofs.lemmas.List.{take_at, drop_at, drop-drop, length-append, l
 use Rattle.std.proofs.lemmas.Bool.{ltb-false, cond-true, cond-false, or_left, or_right}
 use Rattle.nas.specs.Elements.{octet, pair, session_kind, octets_of_length, contents_length, element}
 use Rattle.codes.specs.declared.refusal.Refusal.TheVariants.{Overrun}
-use Rattle.nas.specs.Uplinks.{Parts, refuse, else, first_if, checked_if, front, session_id, old_session_id, s_nssai, dnn_name, request_kind, request_bits, slice_length, slice_code, slice_in, dnn_length, dnn_in, noted, walk, then}
+use Rattle.codes.specs.Refusals.{refuse}
+use Rattle.nas.specs.Uplinks.{Parts, else, first_if, checked_if, front, session_id, old_session_id, s_nssai, dnn_name, request_kind, request_bits, slice_length, slice_code, slice_in, dnn_length, dnn_in, noted, walk, then}
 use Rattle.nas.specs.Messages.{Ie, length_field, encoded, Formed, first_of, session_number, firsts}
 use Rattle.nas.proofs.Passing.{fitting, overrunning, walk_skip}
 

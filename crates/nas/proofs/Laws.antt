@@ -6,7 +6,8 @@ use Rattle.std.proofs.lemmas.Grind.{flat_map-append}
 use Rattle.std.proofs.lemmas.List.{take_at, drop_at, drop-drop, length-append, take-append-le, length-take-le}
 use Rattle.std.proofs.lemmas.Bool.Decides.{nat_tests}
 use Rattle.codes.specs.declared.refusal.Refusal.TheVariants.{Overrun}
-use Rattle.nas.specs.Uplinks.{Message, nothing, refuse, s_nssai, dnn_name, walk, then, header, judged, read}
+use Rattle.codes.specs.Refusals.{refuse}
+use Rattle.nas.specs.Uplinks.{Message, nothing, s_nssai, dnn_name, walk, then, header, judged, read}
 use Rattle.nas.specs.Messages.{Ie, encoded, Formed, first_of, firsts, WellFormed, framed, message, Reads}
 use Rattle.nas.proofs.Passing.{read_refused}
 use Rattle.nas.proofs.Encoded.{walk_all, walk_cut, with_all}

@@ -7,9 +7,9 @@ use Rattle.nas.specs.declared.element.Extent.{Extent}
 use Rattle.nas.specs.Elements.{octets_of_length, contents_length, element}
 use Rattle.codes.specs.declared.refusal.Refusal.{Refusal}
 use Rattle.codes.specs.declared.refusal.Refusal.TheVariants.{Overrun}
-use Rattle.codes.specs.Refusals.{refusal_number}
+use Rattle.codes.specs.Refusals.{refusal_number, refuse}
 use Rattle.nas.specs.Steps.{Extends, Passed, Stopped}
-use Rattle.nas.specs.Uplinks.{Parts, refuse, noted, nothing, walk, then, header, judged, read}
+use Rattle.nas.specs.Uplinks.{Parts, noted, nothing, walk, then, header, judged, read}
 
 -- an element that fits the octets behind its first one
 pub fitting : (x : ℕ) (behind : List ℕ) → 16 ≤ x → octets_of_length x + contents_length x behind ≤ length behind → element x behind ≡ Ok (record { size = octets_of_length x + contents_length x behind; contents = take (contents_length x behind) (drop (octets_of_length x) behind) })

@@ -4,7 +4,8 @@ use Rattle.std.specs.List.{flat_map, AllByRecursion}
 use Rattle.std.specs.Option.{option_map}
 use Rattle.codes.specs.declared.refusal.Refusal.TheVariants.{Overrun}
 use Rattle.nas.specs.Elements.{octet, session_kind}
-use Rattle.nas.specs.Uplinks.{Parts, Message, refuse, session_id, old_session_id, s_nssai, dnn_name, request_kind, request_bits, slice_length, slice_code, dnn_length, judged, read}
+use Rattle.codes.specs.Refusals.{refuse}
+use Rattle.nas.specs.Uplinks.{Parts, Message, session_id, old_session_id, s_nssai, dnn_name, request_kind, request_bits, slice_length, slice_code, dnn_length, judged, read}
 
 -- an information element: its first octet, and its contents
 pub record Ie : Type 0 where

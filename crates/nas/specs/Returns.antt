@@ -3,7 +3,8 @@ use Rattle.std.specs.Prelude.{◌≡◌, ℕ, ◌+◌, ◌/◌, ◌%◌, cond, �
 use Rattle.codes.specs.declared.cause.Cause.{Cause}
 use Rattle.codes.specs.declared.refusal.Refusal.TheVariants.{PayloadLength, SessionBounds, OutputLength}
 use Rattle.codes.specs.Causes.{cause_number, back_off_octet}
-use Rattle.nas.specs.Uplinks.{refuse, in_range}
+use Rattle.codes.specs.Refusals.{refuse}
+use Rattle.nas.specs.Uplinks.{in_range}
 
 abbrev pub return_header : List ℕ
 return_header = 0x7E ∷ 0x00 ∷ 0x68 ∷ 0x01 ∷ []

@@ -1,13 +1,9 @@
 -- What the octets of an UL NAS TRANSPORT message say. A refusal stands as its number.
 use Rattle.std.specs.Prelude.{ℕ, zero, suc, ◌+◌, ◌*◌, ◌%◌, Bool, true, false, cond, not, ◌&&◌, ◌||◌, List, [], ◌∷◌, length, take, drop, is_some, Some, None, Ok, Err, Option, Result, ◌==◌, nat_le, nat_lt}
-use Rattle.codes.specs.declared.refusal.Refusal.{Refusal}
 use Rattle.codes.specs.declared.refusal.Refusal.TheVariants.{Overrun, Header, PayloadType, PayloadLength, ElementLength, SessionBounds, UnknownRequest}
-use Rattle.codes.specs.Refusals.{refusal_number}
+use Rattle.codes.specs.Refusals.{refuse}
 use Rattle.codes.specs.RequestTypes.{request_in}
 use Rattle.nas.specs.Elements.{octet, pair, element}
-
-abbrev pub refuse : {X : Type 0} → Refusal → Result X ℕ
-refuse r = Err (refusal_number r)
 
 -- x is handed on to f, unless it is refused
 abbrev pub then : {X Y : Type 0} → Result X ℕ → (X → Result Y ℕ) → Result Y ℕ

@@ -18,11 +18,6 @@ parts f = record { session = f.session; old = f.old_session; request = f.request
 abbrev pub decoded : Uplink → Message
 decoded u = record { payload = u.payload.now; session = u.session; old = u.old_session; request = option_map request_number u.request_type; slice = u.slice; dnn = option_map octets u.dnn }
 
--- a refusal by its number
-abbrev pub numbered : {X : Type 0} → Result X Refusal → Result X ℕ
-numbered (Ok x) = Ok x
-numbered (Err e) = Err (refusal_number e)
-
 -- what view shows of a value, or the refusal by its number
 abbrev pub seen : {X Y : Type 0} → (X → Y) → Result X Refusal → Result Y ℕ
 seen view (Ok x) = Ok (view x)

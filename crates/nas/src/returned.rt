@@ -1,7 +1,7 @@
 // The DL NAS TRANSPORT message that returns a payload to its sender.
 ghost use Rattle.std.specs.Prelude.{◌≡◌, ◌+◌, ◌≤◌, length};
 ghost use Rattle.nas.specs.Returns.{back_off_element, overwritten, Returns};
-ghost use Rattle.nas.specs.Views.{numbered};
+ghost use Rattle.codes.specs.Refusals.{numbered};
 
 use crate::element::SESSION_ID;
 use crate::uplink::MAX_PAYLOAD;

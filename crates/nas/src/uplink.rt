@@ -2,7 +2,8 @@
 ghost use Rattle.std.specs.Prelude.{◌≡◌};
 ghost use Rattle.nas.specs.Uplinks.{header, judged, noted, nothing, walk, slice_in};
 ghost use Rattle.nas.specs.Messages.{Reads};
-ghost use Rattle.nas.specs.Views.{numbered, parts, seen, answer};
+ghost use Rattle.codes.specs.Refusals.{numbered};
+ghost use Rattle.nas.specs.Views.{parts, seen, answer};
 
 use crate::element::{DNN, Element, OLD_SESSION_ID, Reader, S_NSSAI, SESSION_ID};
 use codes::{Refusal, RequestType, SessionId, SliceCode, is_session};

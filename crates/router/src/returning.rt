@@ -3,7 +3,7 @@ ghost use Rattle.std.specs.Prelude.{◌≡◌, ℕ, ◌+◌, ◌<◌, ◌≤◌,
 ghost use Rattle.accounts.specs.Receives.{passing};
 ghost use Rattle.codes.specs.declared.refusal.Refusal.TheVariants.{OutputLength};
 ghost use Rattle.nas.specs.Returns.{returned};
-ghost use Rattle.nas.specs.Views.{numbered};
+ghost use Rattle.codes.specs.Refusals.{numbered};
 ghost use Rattle.router.specs.Buffers.{FrontWritten};
 
 use codes::{Cause, Refusal, SessionId};

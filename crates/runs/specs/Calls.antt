@@ -10,7 +10,8 @@ use Rattle.flights.specs.declared.flight.Flight.{Flight}
 use Rattle.flights.specs.declared.flight.Mark.TheVariants.{InHand, Parked}
 use Rattle.flights.specs.Slots.{at, is_parked, in_hand}
 use Rattle.nas.specs.Returns.{returned, overwritten}
-use Rattle.nas.specs.Uplinks.{Message, refuse}
+use Rattle.codes.specs.Refusals.{refuse}
+use Rattle.nas.specs.Uplinks.{Message}
 use Rattle.stores.specs.declared.context.Context.{Context}
 use Rattle.stores.specs.Contexts.{lookup}
 use Rattle.verdicts.specs.declared.verdict.Verdict.{Verdict}
