@@ -3,6 +3,7 @@ use Rattle.std.specs.Prelude.{◌≡◌, ℕ, ◌+◌, ◌<◌, ◌≤◌, Bool,
 use Rattle.accounts.specs.Receives.{Received, Answer, received, case_on}
 use Rattle.codes.specs.declared.refusal.Refusal.{Refusal}
 use Rattle.control.specs.declared.control_row.ControlRow.{ControlRow}
+use Rattle.control.specs.declared.control_table.ControlTable.{ControlTable}
 use Rattle.control.specs.Lines.{back_off_of}
 use Rattle.directories.specs.declared.directory.Directory.{Ghosts}
 use Rattle.directories.specs.Choices.{Chosen}
@@ -24,7 +25,9 @@ use Rattle.verdicts.specs.Rules.{ruling}
 use Rattle.verdicts.specs.Rulings.{asks_directory}
 use Rattle.router.specs.Buffers.{FrontWritten}
 use Rattle.router.specs.Views.{shown, token}
-use Rattle.runs.specs.Calls.{flight}
+use Rattle.runs.specs.Calls.{flight, Receives}
+use Rattle.runs.specs.Entries as entry
+use Rattle.runs.specs.Entries.{Entry}
 use Rattle.runs.specs.Models.{Model, Token, state}
 
 -- the message of an admission, or the number of the refusal
@@ -102,6 +105,10 @@ abbrev pub handed_by : {D : Type 0} → Ghosts D → UeRecord → List ControlRo
 handed_by g ue rows directory pool output octets =
     record { ue = plain ue; back_off = back_off_of rows; is_open = g.opened directory; serves = g.serves directory; pool = pool; output = output; octets = octets }
 
+-- the same of whole values
+abbrev pub heard : {D : Type 0} → Ghosts D → UeRecord → ControlTable → D → List ℕ → List ℕ → List ℕ → Received
+heard g ue controls directory pool output octets = handed_by g ue controls.table.rows.now directory (length pool) (length output) octets
+
 -- what is judged: of buffers nothing is asked
 abbrev pub judged_by : {D : Type 0} → Ghosts D → UeRecord → List ControlRow → D → Received
 judged_by g ue rows directory = handed_by g ue rows directory 0 0 []
@@ -109,6 +116,16 @@ judged_by g ue rows directory = handed_by g ue rows directory 0 0 []
 -- what a receive answers, by the output that it left
 abbrev pub answer_in : List ℕ → Result code.Answer Refusal → Result Answer ℕ
 answer_in output a = shown (told output) (λ e. e) a
+
+-- ---- a receive as a whole
+
+-- the receive r of a router with this state, which left this output and gave this result
+abbrev pub DoesReceive : Model → Received → List ℕ → Result code.Answer Refusal → Model → Type 0
+DoesReceive m r output result n = Receives m r (chosen_in m r (answer_in output result)) (ticket_of result) (answer_in output result) n
+
+-- the same as it stands in a list of calls
+abbrev pub receive_entry : Model → Received → List ℕ → Result code.Answer Refusal → Entry
+receive_entry m r output result = entry.receive r (chosen_in m r (answer_in output result)) (ticket_of result) (answer_in output result)
 
 -- ---- what the checks found
 

@@ -21,8 +21,8 @@ use std::alloc::Global;
 use stores::{Context, PduSession, Store};
 
 #[derive(Drop)]
-pub struct Router<'a, S: Store> {
-    store: &'a mut S,
+pub struct Router<S: Store> {
+    store: S,
     book: Book,
     configuration: Configuration,
     flights: Flights,
@@ -32,15 +32,15 @@ pub struct Router<'a, S: Store> {
     ghost fits: { FlightsFit flights.slots },
 }
 
-impl<'a, S: Store> Router<'a, S> {
+impl<S: Store> Router<S> {
     ghost use Rattle.std.specs.Prelude.{◌≡◌, ℕ, ◌<◌, List, IfErr, MatchResult, take, [], ◌∷◌, length, IfOk, true};
     ghost use Rattle.accounts.specs.Receives.{Opening};
     ghost use Rattle.nas.specs.Uplinks.{read};
     ghost use Rattle.nas.specs.Views.{octets};
     ghost use Rattle.router.specs.Buffers.{FrontWritten};
     ghost use Rattle.router.specs.Openings.{Begins, opening, opening_fits, NotOpened};
-    ghost use Rattle.router.specs.Receiving.{asks, Consulted, answer_in, chosen_in, ticket_of, handed_by, IsOpen, OutputAfter};
-    ghost use Rattle.router.specs.Views.{SameStore, model, token, handed, shown};
+    ghost use Rattle.router.specs.Receiving.{heard, DoesReceive, receive_entry, asks, Consulted, answer_in, chosen_in, ticket_of, handed_by, IsOpen, OutputAfter};
+    ghost use Rattle.router.specs.Views.{Lawful, LawfulWith, LawfulOver, model, token, handed, shown};
     ghost use Rattle.runs.specs.Calls.{HandsOut, Takes, Fails, Parks, Picks, Receives, Releases};
     ghost use Rattle.runs.specs.Laws.{Extends};
     ghost use Rattle.runs.specs.Entries as entry;
@@ -49,7 +49,7 @@ impl<'a, S: Store> Router<'a, S> {
 
     // The context of a session.
     pub fn context(&self, session: PduSession) -> Option<Context>
-        ensures { result ≡ lookup (S.Store.contexts self.now.store.now) session.ue session.id }
+        ensures { result ≡ lookup (S.Store.contexts self.now.store) session.ue session.id }
     {
         self.store.find(session)
     }
@@ -62,12 +62,12 @@ impl<'a, S: Store> Router<'a, S> {
         book: &Book,
         configuration: Configuration,
         first: u32,
-        store: &'a mut S,
-    ) -> Result<Router<'a, S>, Unopened<'a, S>>
+        store: S,
+    ) -> Result<Router<S>, Unopened<S>>
         ensures opened { IfOk result (λ r. (p : List ℕ) → Opened (opening book.now configuration first) (model r p)) }
         ensures begins { IfOk result (λ r. (p : List ℕ) → Begins (opening book.now configuration first) (model r p)) }
-        ensures fits { MatchResult result (λ r. opening_fits (opening book.now configuration first) (S.Store.contexts store.old) ≡ true) (λ u. NotOpened (opening_fits (opening book.now configuration first) (S.Store.contexts store.old)) u.error) }
-        ensures store { MatchResult result (λ r. r.store ≡ store.entry) (λ u. u.store ≡ store.entry) }
+        ensures fits { MatchResult result (λ r. opening_fits (opening book.now configuration first) (S.Store.contexts store) ≡ true) (λ u. NotOpened (opening_fits (opening book.now configuration first) (S.Store.contexts store)) u.error) }
+        ensures store { MatchResult result (λ r. r.store ≡ store) (λ u. u.store ≡ store) }
     {
         Router::begin(heap, book, configuration, first, store)
     }
@@ -82,12 +82,17 @@ impl<'a, S: Store> Router<'a, S> {
         output: &mut [u8],
         message: &[u8],
     ) -> Result<Answer, Refusal>
-        ensures does { let r = handed_by D.Directory ue.entry controls.now.table.rows.now directory.old (length pool.old) (length output.old) message.now in let a = answer_in output.new result in Receives (model self.old pool.old) r (chosen_in (model self.old pool.old) r a) (ticket_of result) a (model self.new pool.new) }
-        ensures lawful { let r = handed_by D.Directory ue.entry controls.now.table.rows.now directory.old (length pool.old) (length output.old) message.now in let a = answer_in output.new result in (o : Opening) (p : List ℕ) → IsHanded p pool.old → Extends o (model self.old p) (entry.receive r (chosen_in (model self.old pool.old) r a) (ticket_of result) a ∷ []) (model self.new (pool_after p pool.old pool.new)) }
+        ensures does {
+            let r = heard D.Directory ue.entry controls.now directory.old pool.old output.old message.now in
+            DoesReceive (model self.old pool.old) r output.new result (model self.new pool.new)
+        }
+        ensures lawful {
+            let r = heard D.Directory ue.entry controls.now directory.old pool.old output.old message.now in
+            LawfulOver pool.old pool.new self.old self.new (receive_entry (model self.old pool.old) r output.new result)
+        }
         ensures output { MatchResult result (λ a. OutputAfter output.old output.new a.delivery) (λ _. output.new ≡ output.old) }
         ensures ticket { IfOk result (λ a. IsOpen (model self.new pool.new) a.delivery) }
         ensures directory { let r = handed_by D.Directory ue.entry controls.now.table.rows.now directory.old (length pool.old) (length output.old) message.now in MatchResult result (λ a. Consulted D.Directory (asks (model self.old pool.old) r (read message.now)) a.verdict directory.old directory.new) (λ _. directory.new ≡ directory.old) }
-        ensures same_store { SameStore self.old self.new }
     {
         self.accept(ue, controls, directory, pool, output, message)
     }
@@ -95,7 +100,7 @@ impl<'a, S: Store> Router<'a, S> {
     // The payload of a ticket: the octets that its slot begins with.
     pub fn payload<'p>(&self, pool: &'p [u8], ticket: &Ticket) -> Result<&'p [u8], Refusal>
         ensures does { HandsOut (model self.now pool.now) (length pool.now) (token ticket.now) (shown octets (λ e. e) result) (model self.now pool.now) }
-        ensures lawful { (o : Opening) (p : List ℕ) → IsHanded p pool.now → Extends o (model self.now p) (entry.payload (length pool.now) (token ticket.now) (shown octets (λ e. e) result) ∷ []) (model self.now p) }
+        ensures lawful { LawfulWith pool.now self.now self.now (entry.payload (length pool.now) (token ticket.now) (shown octets (λ e. e) result)) }
     {
         self.hand_out(pool, ticket)
     }
@@ -104,9 +109,8 @@ impl<'a, S: Store> Router<'a, S> {
     #[tactic(auto, using(runs::proofs::Whole::lawful))]
     pub fn taken(&mut self, ticket: Ticket) -> Result<(), HandedBack<Ticket>>
         ensures does { (p : List ℕ) → Takes (model self.old p) (token ticket) (handed (λ x. x) result) (model self.new p) }
-        ensures lawful { (o : Opening) (p : List ℕ) → Extends o (model self.old p) (entry.taken (token ticket) (handed (λ x. x) result) ∷ []) (model self.new p) }
+        ensures lawful { Lawful self.old self.new (entry.taken (token ticket) (handed (λ x. x) result)) }
         ensures handed_back { IfErr result (λ e. e.value ≡ ticket) }
-        ensures same_store { SameStore self.old self.new }
     {
         self.take(ticket)
     }
@@ -119,10 +123,9 @@ impl<'a, S: Store> Router<'a, S> {
         ticket: Ticket,
     ) -> Result<usize, HandedBack<Ticket>>
         ensures does { Fails (model self.old pool.now) (length pool.now) (length output.old) (token ticket) (handed (λ n. take n output.new) result) (model self.new pool.now) }
-        ensures lawful { (o : Opening) (p : List ℕ) → IsHanded p pool.now → Extends o (model self.old p) (entry.failed (length pool.now) (length output.old) (token ticket) (handed (λ n. take n output.new) result) ∷ []) (model self.new p) }
+        ensures lawful { LawfulWith pool.now self.old self.new (entry.failed (length pool.now) (length output.old) (token ticket) (handed (λ n. take n output.new) result)) }
         ensures rest { MatchResult result (λ n. FrontWritten n output.old output.new) (λ e. output.new ≡ output.old) }
         ensures handed_back { IfErr result (λ e. e.value ≡ ticket) }
-        ensures same_store { SameStore self.old self.new }
     {
         self.fail(pool, output, ticket)
     }
@@ -131,9 +134,8 @@ impl<'a, S: Store> Router<'a, S> {
     #[tactic(auto, using(runs::proofs::Whole::lawful))]
     pub fn park(&mut self, ticket: Ticket) -> Result<u32, HandedBack<Ticket>>
         ensures does { (p : List ℕ) → Parks (model self.old p) (token ticket) (handed (λ x. x) result) (model self.new p) }
-        ensures lawful { (o : Opening) (p : List ℕ) → Extends o (model self.old p) (entry.park (token ticket) (handed (λ x. x) result) ∷ []) (model self.new p) }
+        ensures lawful { Lawful self.old self.new (entry.park (token ticket) (handed (λ x. x) result)) }
         ensures handed_back { IfErr result (λ e. e.value ≡ ticket) }
-        ensures same_store { SameStore self.old self.new }
     {
         self.set_aside(ticket)
     }
@@ -142,8 +144,7 @@ impl<'a, S: Store> Router<'a, S> {
     #[tactic(auto, using(runs::proofs::Whole::lawful))]
     pub fn pick(&mut self, number: u32) -> Result<Ticket, Refusal>
         ensures does { (p : List ℕ) → Picks (model self.old p) number (shown token (λ e. e) result) (model self.new p) }
-        ensures lawful { (o : Opening) (p : List ℕ) → Extends o (model self.old p) (entry.pick number (shown token (λ e. e) result) ∷ []) (model self.new p) }
-        ensures same_store { SameStore self.old self.new }
+        ensures lawful { Lawful self.old self.new (entry.pick number (shown token (λ e. e) result)) }
     {
         self.pick_up(number)
     }
@@ -152,8 +153,7 @@ impl<'a, S: Store> Router<'a, S> {
     #[tactic(auto, using(runs::proofs::Whole::lawful))]
     pub fn released(&mut self, session: PduSession) -> Result<(), Refusal>
         ensures does { (p : List ℕ) → Releases (model self.old p) session.ue session.id (shown (λ x. x) (λ e. e) result) (model self.new p) }
-        ensures lawful { (o : Opening) (p : List ℕ) → Extends o (model self.old p) (entry.released session.ue session.id (shown (λ x. x) (λ e. e) result) ∷ []) (model self.new p) }
-        ensures same_store { SameStore self.old self.new }
+        ensures lawful { Lawful self.old self.new (entry.released session.ue session.id (shown (λ x. x) (λ e. e) result)) }
     {
         self.release(session)
     }

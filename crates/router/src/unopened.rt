@@ -6,15 +6,15 @@ use stores::Store;
 
 /// The store that was lent comes back as it was.
 #[derive(Drop)]
-pub struct Unopened<'a, S: Store> {
+pub struct Unopened<S: Store> {
     pub error: SetupError,
-    pub store: &'a mut S,
+    pub store: S,
 }
 
-impl<'a, S: Store> From<Unopened<'a, S>> for SetupError {
+impl<S: Store + Drop> From<Unopened<S>> for SetupError {
     ghost from_gives = { λ u e. e ≡ u.error };
 
-    fn from(unopened: Unopened<'a, S>) -> SetupError {
+    fn from(unopened: Unopened<S>) -> SetupError {
         unopened.error
     }
 }

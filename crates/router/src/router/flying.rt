@@ -4,7 +4,7 @@ ghost use Rattle.flights.specs.Slots.{in_hand};
 ghost use Rattle.flights.specs.declared.flight.Mark.TheVariants.{InHand};
 ghost use Rattle.nas.specs.Views.{octets};
 ghost use Rattle.router.specs.Buffers.{FrontWritten};
-ghost use Rattle.router.specs.Views.{SameStore, model, token, handed, shown};
+ghost use Rattle.router.specs.Views.{model, token, handed, shown};
 ghost use Rattle.runs.specs.Calls.{HandsOut, Takes, Fails, Parks, Picks, Releases, Undone};
 
 use super::Router;
@@ -26,7 +26,7 @@ fn hand_back(refusal: Refusal, ticket: Ticket) -> HandedBack<Ticket>
     }
 }
 
-impl<'a, S: Store> Router<'a, S> {
+impl<S: Store> Router<S> {
     // The flight of a ticket, if the ticket is open here.
     fn flight(&self, ticket: &Ticket) -> Option<Flight>
         ensures value { result ≡ in_hand self.now.flights.slots ticket.now.number ticket.now.slot }
@@ -50,7 +50,6 @@ impl<'a, S: Store> Router<'a, S> {
     // The flight is over, and with it the context that was put for it.
     fn undo(&mut self, slot: usize, flight: Flight)
         ensures does { (p : List ℕ) → Undone (model self.old p) slot flight (model self.new p) }
-        ensures same_store { SameStore self.old self.new }
     {
         self.flights.close(slot);
         if flight.establishes {
@@ -70,7 +69,6 @@ impl<'a, S: Store> Router<'a, S> {
         ensures does { Fails (model self.old pool.now) (length pool.now) (length output.old) (token ticket) (handed (λ n. take n output.new) result) (model self.new pool.now) }
         ensures rest { MatchResult result (λ n. FrontWritten n output.old output.new) (λ e. output.new ≡ output.old) }
         ensures handed_back { IfErr result (λ e. e.value ≡ ticket) }
-        ensures same_store { SameStore self.old self.new }
     {
         if pool.len() != POOL_LENGTH {
             return Err(hand_back(Refusal::PoolLength, ticket));
@@ -92,7 +90,6 @@ impl<'a, S: Store> Router<'a, S> {
     pub(super) fn take(&mut self, ticket: Ticket) -> Result<(), HandedBack<Ticket>>
         ensures does { (p : List ℕ) → Takes (model self.old p) (token ticket) (handed (λ x. x) result) (model self.new p) }
         ensures handed_back { IfErr result (λ e. e.value ≡ ticket) }
-        ensures same_store { SameStore self.old self.new }
     {
         if self.flight(&ticket).is_none() {
             return Err(hand_back(Refusal::UnknownTicket, ticket));
@@ -105,7 +102,6 @@ impl<'a, S: Store> Router<'a, S> {
     pub(super) fn set_aside(&mut self, ticket: Ticket) -> Result<u32, HandedBack<Ticket>>
         ensures does { (p : List ℕ) → Parks (model self.old p) (token ticket) (handed (λ x. x) result) (model self.new p) }
         ensures handed_back { IfErr result (λ e. e.value ≡ ticket) }
-        ensures same_store { SameStore self.old self.new }
     {
         if self.flight(&ticket).is_none() {
             return Err(hand_back(Refusal::UnknownTicket, ticket));
@@ -117,7 +113,6 @@ impl<'a, S: Store> Router<'a, S> {
 
     pub(super) fn pick_up(&mut self, number: u32) -> Result<Ticket, Refusal>
         ensures does { (p : List ℕ) → Picks (model self.old p) number (shown token (λ e. e) result) (model self.new p) }
-        ensures same_store { SameStore self.old self.new }
     {
         let slot = self
             .flights
@@ -129,7 +124,6 @@ impl<'a, S: Store> Router<'a, S> {
 
     pub(super) fn release(&mut self, session: PduSession) -> Result<(), Refusal>
         ensures does { (p : List ℕ) → Releases (model self.old p) session.ue session.id (shown (λ x. x) (λ e. e) result) (model self.new p) }
-        ensures same_store { SameStore self.old self.new }
     {
         if !self.store.remove(session) {
             return Err(Refusal::NoContext);

@@ -32,20 +32,20 @@ fn copied<S: Store>(
     Ok(book.try_clone(heap)?)
 }
 
-impl<'a, S: Store> Router<'a, S> {
+impl<S: Store> Router<S> {
     // A router over an empty store, which it alone writes from now on. The book is copied.
     pub(super) fn begin(
         heap: Global,
         book: &Book,
         configuration: Configuration,
         first: u32,
-        store: &'a mut S,
-    ) -> Result<Router<'a, S>, Unopened<'a, S>>
+        store: S,
+    ) -> Result<Router<S>, Unopened<S>>
         ensures opened { IfOk result (λ r. (p : List ℕ) → Opened (opening book.now configuration first) (model r p)) }
-        ensures fits { MatchResult result (λ r. opening_fits (opening book.now configuration first) (S.Store.contexts store.old) ≡ true) (λ u. NotOpened (opening_fits (opening book.now configuration first) (S.Store.contexts store.old)) u.error) }
-        ensures store { MatchResult result (λ r. r.store ≡ store.entry) (λ u. u.store ≡ store.entry) }
+        ensures fits { MatchResult result (λ r. opening_fits (opening book.now configuration first) (S.Store.contexts store) ≡ true) (λ u. NotOpened (opening_fits (opening book.now configuration first) (S.Store.contexts store)) u.error) }
+        ensures store { MatchResult result (λ r. r.store ≡ store) (λ u. u.store ≡ store) }
     {
-        match copied(heap, book, configuration, first, store) {
+        match copied(heap, book, configuration, first, &store) {
             Ok(book) => Ok(Router {
                 store,
                 book,

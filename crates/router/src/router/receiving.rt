@@ -8,7 +8,7 @@ ghost use Rattle.nas.specs.Views.{decoded, octets};
 ghost use Rattle.records.specs.Records.{plain, record_fits};
 ghost use Rattle.router.specs.Fits.{flight_fits};
 ghost use Rattle.router.specs.Receiving.{Admitted, asks, choice_for, Consulted, answer_in, chosen_in, ticket_of, admitted_message, received_of, handed_by, judged_by, IsOpen, OutputAfter, ticket_in, told, Fitting, written_to};
-ghost use Rattle.router.specs.Views.{SameStore, core, model, shown};
+ghost use Rattle.router.specs.Views.{core, model, shown};
 ghost use Rattle.runs.specs.Models.{state};
 ghost use Rattle.nas.specs.Uplinks as uplinks;
 ghost use Rattle.runs.specs.Calls.{Accepted, Delivered, flight_of, PlacedIn, RightChoice, Receives};
@@ -36,13 +36,13 @@ use records::UeRecord;
 use stores::{PduSession, Store};
 use verdicts::{Decision, Verdict, judge};
 
-impl<'a, S: Store> Router<'a, S> {
+impl<S: Store> Router<S> {
     // The next number and a free slot for a session that has no payload in flight. Nothing is changed yet.
     fn reserve(&self, session: PduSession) -> Result<(u32, usize), Refusal>
         ensures value { (x : uplinks.Message) → shown (λ _. x) (λ e. e) result ≡ reserved (state (model self.now [])) session.ue session.id x }
         ensures number { IfOk result (λ r. r.0 ≡ self.now.next) }
         ensures slot { IfOk result (λ r. (r.1 < 16) × (at self.now.flights.slots r.1 ≡ None)) }
-        ensures room { IfOk result (λ r. S.Store.room self.now.store.now session.ue session.id ≡ true) }
+        ensures room { IfOk result (λ r. S.Store.room self.now.store session.ue session.id ≡ true) }
         ensures next { IfOk result (λ r. self.now.next ≤ 4294967295) }
     {
         if self.flights.has(session) {
@@ -96,14 +96,14 @@ impl<'a, S: Store> Router<'a, S> {
         controls: &ControlTable<'_>,
         directory: &mut D,
     ) -> Verdict
-        ensures judged { Judged (case_on (core self.now) (S.Store.contexts self.now.store.now) (judged_by D.Directory ue.entry controls.now.table.rows.now directory.old) (decoded uplink.now)) (D.Directory.opened directory.old) (D.Directory.serves directory.old) (D.Directory.takes directory.old) result }
+        ensures judged { Judged (case_on (core self.now) (S.Store.contexts self.now.store) (judged_by D.Directory ue.entry controls.now.table.rows.now directory.old) (decoded uplink.now)) (D.Directory.opened directory.old) (D.Directory.serves directory.old) (D.Directory.takes directory.old) result }
         ensures unasked { asks (model self.now []) (judged_by D.Directory ue.entry controls.now.table.rows.now directory.old) (Ok (decoded uplink.now)) ≡ false → directory.new ≡ directory.old }
         ensures turn { asks (model self.now []) (judged_by D.Directory ue.entry controls.now.table.rows.now directory.old) (Ok (decoded uplink.now)) ≡ true → D.Directory.turned directory.old result.used.slice result.used.dnn (answer_of (D.Directory.opened directory.old) (smf_of result.decision)) directory.new }
         ensures opening { D.Directory.opened directory.new ≡ D.Directory.opened directory.old }
         ensures serving { (s n m : ℕ) → D.Directory.serves directory.new s n m ≡ D.Directory.serves directory.old s n m }
     {
         let inquiry = inquiry(uplink, ue, self.configuration, &self.book);
-        judge(&inquiry, self.store, controls, directory)
+        judge(&inquiry, &self.store, controls, directory)
     }
 
     // The same, in the words of a receive.
@@ -116,8 +116,8 @@ impl<'a, S: Store> Router<'a, S> {
     ) -> Verdict
         requires ue_in { record_fits (length (core self.now).names) (plain ue) ≡ true }
         requires session { in_range uplink.now.session ≡ true }
-        ensures value { let r = judged_by D.Directory ue.entry controls.now.table.rows.now directory.old in result ≡ verdict_on (core self.now) (S.Store.contexts self.now.store.now) r (choice_for (model self.now []) r result (Ok (decoded uplink.now))) (decoded uplink.now) }
-        ensures choice { let r = judged_by D.Directory ue.entry controls.now.table.rows.now directory.old in RightChoice (core self.now) (S.Store.contexts self.now.store.now) r (choice_for (model self.now []) r result (Ok (decoded uplink.now))) (decoded uplink.now) }
+        ensures value { let r = judged_by D.Directory ue.entry controls.now.table.rows.now directory.old in result ≡ verdict_on (core self.now) (S.Store.contexts self.now.store) r (choice_for (model self.now []) r result (Ok (decoded uplink.now))) (decoded uplink.now) }
+        ensures choice { let r = judged_by D.Directory ue.entry controls.now.table.rows.now directory.old in RightChoice (core self.now) (S.Store.contexts self.now.store) r (choice_for (model self.now []) r result (Ok (decoded uplink.now))) (decoded uplink.now) }
         ensures directory { Consulted D.Directory (asks (model self.now []) (judged_by D.Directory ue.entry controls.now.table.rows.now directory.old) (Ok (decoded uplink.now))) result directory.old directory.new }
         ensures bounded { (c : code.Context) → context_of result ue.entry.number uplink.now.session ≡ Some c → fits c ≡ true }
     {
@@ -203,11 +203,10 @@ impl<'a, S: Store> Router<'a, S> {
     ) -> Answer
         requires admitted { Admitted (model self.old pool.old) (plain ue) (length pool.old) (length output.old) admission.now }
         ensures accepted { (octets : List ℕ) → let r = handed_by D.Directory ue.entry controls.now.table.rows.now directory.old (length pool.old) (length output.old) octets in Accepted (model self.old pool.old) r (choice_for (model self.old pool.old) r result.verdict (Ok (decoded admission.now.uplink))) (ticket_in result.delivery) (decoded admission.now.uplink) (model self.new pool.new) }
-        ensures answer { (octets : List ℕ) → let r = handed_by D.Directory ue.entry controls.now.table.rows.now directory.old (length pool.old) (length output.old) octets in told output.new result ≡ answer_to (core self.old) self.old.next (S.Store.contexts self.old.store.now) r (choice_for (model self.old pool.old) r result.verdict (Ok (decoded admission.now.uplink))) (decoded admission.now.uplink) }
+        ensures answer { (octets : List ℕ) → let r = handed_by D.Directory ue.entry controls.now.table.rows.now directory.old (length pool.old) (length output.old) octets in told output.new result ≡ answer_to (core self.old) self.old.next (S.Store.contexts self.old.store) r (choice_for (model self.old pool.old) r result.verdict (Ok (decoded admission.now.uplink))) (decoded admission.now.uplink) }
         ensures output { OutputAfter output.old output.new result.delivery }
         ensures ticket { IsOpen (model self.new pool.new) result.delivery }
         ensures directory { Consulted D.Directory (asks (model self.old pool.old) (judged_by D.Directory ue.entry controls.now.table.rows.now directory.old) (Ok (decoded admission.now.uplink))) result.verdict directory.old directory.new }
-        ensures same_store { SameStore self.old self.new }
     {
         let uplink = &admission.uplink;
         let verdict = self.decide(uplink, ue, controls, directory);
@@ -215,7 +214,7 @@ impl<'a, S: Store> Router<'a, S> {
             ue: ue.number,
             id: uplink.session,
         };
-        settle(self.store, session, verdict);
+        settle(&mut self.store, session, verdict);
         let delivery = self.deliver(pool, output, admission, ue.number, verdict);
         self.next += 1;
         Answer {
@@ -240,7 +239,6 @@ impl<'a, S: Store> Router<'a, S> {
         ensures output { MatchResult result (λ a. OutputAfter output.old output.new a.delivery) (λ _. output.new ≡ output.old) }
         ensures ticket { IfOk result (λ a. IsOpen (model self.new pool.new) a.delivery) }
         ensures directory { MatchResult result (λ a. Consulted D.Directory (asks (model self.old pool.old) (judged_by D.Directory ue.entry controls.now.table.rows.now directory.old) (read message.now)) a.verdict directory.old directory.new) (λ _. directory.new ≡ directory.old) }
-        ensures same_store { SameStore self.old self.new }
     {
         let admission = self.admit(ue, pool, output, message)?;
         Ok(self.handle(&admission, ue, controls, directory, pool, output))
