@@ -90,7 +90,8 @@ impl Book {
 
     // A book of its own with the same names.
     pub fn try_clone(&self, heap: Global) -> Result<Book, AllocError>
-        ensures { IfOk result (λ b. b ≡ self.now) }
+        ensures same { IfOk result (λ b. b ≡ self.now) }
+        ensures good { IfOk result (λ b. GoodNames b) }
     {
         let names = copy_names(heap, self.names.as_slice())?;
         Ok(Book { names })
