@@ -6,7 +6,6 @@ use Rattle.codes.specs.Refusals.{refusal_number}
 use Rattle.codes.specs.declared.setup_error.SetupError.{SetupError}
 use Rattle.codes.specs.declared.setup_error.SetupError.TheVariants.{Refused, OutOfMemory}
 use Rattle.names.specs.declared.book.Book.{Book}
-use Rattle.names.specs.OwnNames.{own_names}
 use Rattle.records.specs.declared.configuration.Configuration.{Configuration}
 use Rattle.records.specs.Configurations.{configuration_fits}
 use Rattle.runs.specs.Laws.{Upholds}
@@ -17,7 +16,7 @@ use Rattle.stores.specs.declared.context.Context.{Context}
 -- what a router is opened with
 abbrev pub opening : Book → Configuration → ℕ → Opening
 opening book configuration first =
-    record { core = record { names = own_names book.names.items; configuration = configuration }; first = first }
+    record { core = record { names = book; configuration = configuration }; first = first }
 
 -- A router can be opened: the DNNs of its configuration are in the book, the first ticket number is not 0, and its store is empty.
 abbrev pub opening_fits : Opening → List Context → Bool

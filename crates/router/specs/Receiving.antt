@@ -107,7 +107,7 @@ handed_by g ue rows directory pool output octets =
 
 -- the same of whole values
 abbrev pub heard : {D : Type 0} → Ghosts D → UeRecord → ControlTable → D → List ℕ → List ℕ → List ℕ → Received
-heard g ue controls directory pool output octets = handed_by g ue controls.table.rows.now directory (length pool) (length output) octets
+heard g ue controls directory pool output octets = handed_by g ue controls directory (length pool) (length output) octets
 
 -- what is judged: of buffers nothing is asked
 abbrev pub judged_by : {D : Type 0} → Ghosts D → UeRecord → List ControlRow → D → Received

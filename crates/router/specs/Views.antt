@@ -4,7 +4,6 @@ use Rattle.accounts.specs.Receives.{Core, Opening}
 use Rattle.codes.specs.declared.handed_back.HandedBack.{HandedBack}
 use Rattle.codes.specs.declared.refusal.Refusal.{Refusal}
 use Rattle.codes.specs.Refusals.{refusal_number}
-use Rattle.names.specs.OwnNames.{own_names}
 use Rattle.stores.specs.declared.store.Store.{Ghosts}
 use Rattle.router.specs.declared.router.Router.{Router}
 use Rattle.router.specs.declared.ticket.Ticket.{Ticket}
@@ -26,7 +25,7 @@ abbrev pub handed : {X Y : Type 0} → (X → Y) → Result X (HandedBack Ticket
 handed view a = shown view (λ e. e.refusal) a
 
 abbrev pub core : {S : Type 0} {g : Ghosts S} → Router S g → Core
-core r = record { names = own_names r.book.names.items; configuration = r.configuration }
+core r = record { names = r.book; configuration = r.configuration }
 
 -- the state of a router, with the octets of the pool
 abbrev pub model : {S : Type 0} {g : Ghosts S} → Router S g → List ℕ → Model

@@ -1,6 +1,6 @@
 // The router: what is in flight, and the store of contexts, which only the router writes while it has it.
 ghost use Rattle.std.specs.Prelude.{◌≡◌, true, length};
-ghost use Rattle.names.specs.OwnNames.{own_names};
+ghost use Rattle.names.specs.Names.{GoodNames};
 ghost use Rattle.records.specs.Configurations.{configuration_fits};
 ghost use Rattle.router.specs.Fits.{FlightsFit};
 
@@ -28,7 +28,8 @@ pub struct Router<S: Store> {
     flights: Flights,
     // The next ticket number. Once the last is given it is none.
     next: u64,
-    ghost configured: { configuration_fits (length (own_names book.names.items)) configuration ≡ true },
+    ghost named: { GoodNames book },
+    ghost configured: { configuration_fits (length book) configuration ≡ true },
     ghost fits: { FlightsFit flights.slots },
 }
 
@@ -92,7 +93,7 @@ impl<S: Store> Router<S> {
         }
         ensures output { MatchResult result (λ a. OutputAfter output.old output.new a.delivery) (λ _. output.new ≡ output.old) }
         ensures ticket { IfOk result (λ a. IsOpen (model self.new pool.new) a.delivery) }
-        ensures directory { let r = handed_by D.Directory ue.entry controls.now.table.rows.now directory.old (length pool.old) (length output.old) message.now in MatchResult result (λ a. Consulted D.Directory (asks (model self.old pool.old) r (read message.now)) a.verdict directory.old directory.new) (λ _. directory.new ≡ directory.old) }
+        ensures directory { let r = handed_by D.Directory ue.entry controls.now directory.old (length pool.old) (length output.old) message.now in MatchResult result (λ a. Consulted D.Directory (asks (model self.old pool.old) r (read message.now)) a.verdict directory.old directory.new) (λ _. directory.new ≡ directory.old) }
     {
         self.accept(ue, controls, directory, pool, output, message)
     }

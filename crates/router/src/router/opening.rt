@@ -1,6 +1,6 @@
 // Opening a router.
 ghost use Rattle.std.specs.Prelude.{◌≡◌, ℕ, List, IfOk, MatchResult, true};
-ghost use Rattle.names.specs.OwnNames.{own_names};
+ghost use Rattle.names.specs.Names.{GoodNames};
 ghost use Rattle.router.specs.Openings.{opening, opening_fits, NotOpened};
 ghost use Rattle.router.specs.Views.{model};
 ghost use Rattle.runs.specs.Runs.{Opened};
@@ -22,7 +22,8 @@ fn copied<S: Store>(
     first: u32,
     store: &S,
 ) -> Result<Book, SetupError>
-    ensures names { IfOk result (λ b. own_names b.names.items ≡ own_names book.now.names.items) }
+    ensures names { IfOk result (λ b. b ≡ book.now) }
+    ensures good { IfOk result (λ b. GoodNames b) }
     ensures fits { MatchResult result (λ b. opening_fits (opening book.now configuration first) (S.Store.contexts store.now) ≡ true) (λ e. NotOpened (opening_fits (opening book.now configuration first) (S.Store.contexts store.now)) e) }
 {
     configuration.check(book)?;
