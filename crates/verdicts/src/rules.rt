@@ -4,7 +4,7 @@ ghost use Rattle.control.specs.Lines.{back_off_of};
 ghost use Rattle.records.specs.Firsts.{known_dnn};
 ghost use Rattle.records.specs.Records.{plain};
 ghost use Rattle.verdicts.specs.declared.decision.Decision.TheVariants.{Forward, Return};
-ghost use Rattle.verdicts.specs.Cases.{asked};
+ghost use Rattle.verdicts.specs.Cases.{asked, posed};
 ghost use Rattle.verdicts.specs.Rulings.{only, settled};
 ghost use Rattle.verdicts.specs.Rules.{awaits_with_emergency, control_cause, congestion, at_limit, barred, objection, established, kept_emergency, emergency_smf_of, or_choice, route, ruling_with};
 
@@ -91,7 +91,8 @@ fn objection<S: Store>(
     context: Option<Context>,
     used: SliceDnn,
 ) -> Option<Cause>
-    ensures { result ≡ objection (asked inquiry.now) (S.Store.contexts store.now) (back_off_of controls.now) context used }
+    ensures { let c = posed inquiry.now (S.Store.contexts store.now) controls.now in
+        result ≡ objection c.asked c.contexts c.back_off context used }
 {
     if awaits_with_emergency(inquiry, store, context) {
         return Some(Cause::NotForwarded);
@@ -213,7 +214,8 @@ pub(crate) fn ruling<S: Store>(
     context: Option<Context>,
     used: SliceDnn,
 ) -> Ruling
-    ensures { result ≡ ruling_with (asked inquiry.now) (S.Store.contexts store.now) (back_off_of controls.now) context used }
+    ensures { let c = posed inquiry.now (S.Store.contexts store.now) controls.now in
+        result ≡ ruling_with c.asked c.contexts c.back_off context used }
 {
     match objection(inquiry, store, controls, context, used) {
         Some(cause) => returned(cause),
