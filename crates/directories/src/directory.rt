@@ -18,11 +18,13 @@ pub trait Directory {
     // Which SMF IDs it may take for a slice and a DNN number at its next choice.
     ghost takes: { Self → ℕ → ℕ → ℕ → Bool };
 
-    // When a directory is what a choice leaves: of the one before, a slice, a DNN number and the answer.
+    // When a directory is what a choice leaves: of the one before, a slice, a DNN number and the
+    // answer.
     ghost turned: { Self → ℕ → ℕ → Result ℕ NoSmf → Self → Type 0 };
 
-    /// The ID, 1 to 255, of an SMF that serves the slice and the DNN, or why there is none: the directory is closed, or
-    /// open and no SMF serves them. Choosing may move the turn, and never changes what is open or who serves.
+    /// The ID, 1 to 255, of an SMF that serves the slice and the DNN, or why there is none: the
+    /// directory is closed, or open and no SMF serves them. Choosing may move the turn, and never
+    /// changes what is open or who serves.
     fn choose(&mut self, wanted: SliceDnn) -> Result<SmfId, NoSmf>
         ensures choice { ChosenFor (opened self.old) (serves self.old) (takes self.old) wanted result }
         ensures named { Named wanted result }

@@ -1,9 +1,11 @@
-// How much a directory holds. A function and no type of its own, which would only hand on a list's methods.
+// How much a directory holds. A function and no type of its own, which would only hand on a list's
+// methods.
 ghost use Rattle.directories.specs.Additions.{Pushing};
 
 use codes::{Refusal, SetupError};
 
-// How many lines a list directory holds at most, and how many pairs of a slice and an SMF a turning one does.
+// How many lines a list directory holds at most, and how many pairs of a slice and an SMF a turning
+// one does.
 const CAPACITY: usize = 64;
 
 // One item more, if there is room for it, which is checked before any memory is asked for.

@@ -33,8 +33,9 @@ impl ListDirectory {
         }
     }
 
-    /// One more line, behind the others, which may stand there already. It is checked before any memory is asked for: a
-    /// line with a DNN number that is not 1 to 64 or with SMF ID 0 is refused, and a 65th line. On an error all is as it was.
+    /// One more line, behind the others, which may stand there already. It is checked before any
+    /// memory is asked for: a line with a DNN number that is not 1 to 64 or with SMF ID 0 is
+    /// refused, and a 65th line. On an error all is as it was.
     pub fn add(&mut self, line: ServiceLine) -> Result<(), SetupError>
         ensures { Adding self.old.lines.items line self.new.lines.items result }
     {

@@ -4,7 +4,8 @@ ghost use Rattle.directories.specs.Meanings.{Sole};
 
 use crate::directory::Directory;
 
-/// A directory that takes one SMF alone for a slice and a DNN at its next choice, and whose proofs say which.
+/// A directory that takes one SMF alone for a slice and a DNN at its next choice, and whose proofs
+/// say which.
 pub trait TakesOne: Directory {
     // When an SMF ID is the one for a slice and a DNN number.
     ghost means: { Self → ℕ → ℕ → ℕ → Type 0 };

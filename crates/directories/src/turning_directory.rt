@@ -18,15 +18,16 @@ use crate::takes_one::TakesOne;
 use codes::{Refusal, SetupError, SliceDnn, SmfId};
 use std::alloc::Global;
 
-/// The turning directory: the SMFs that serve a slice and a DNN take turns, the next ID above the last one first, and then
-/// round. It holds up to 64 pairs of a slice and an SMF, each with its DNNs, and is open or closed.
+/// The turning directory: the SMFs that serve a slice and a DNN take turns, the next ID above the
+/// last one first, and then round. It holds up to 64 pairs of a slice and an SMF, each with its
+/// DNNs, and is open or closed.
 #[derive(Drop)]
 pub struct TurningDirectory {
-    // One for each slice and SMF. A list and no map by the two: a choice goes over all, and `add` alone looks
-    // for one.
+    // One for each slice and SMF. A list and no map by the two: a choice goes over all, and `add`
+    // alone looks for one.
     sets: Vec<ServedSet>,
-    // The ID that was chosen last, above which the next is looked for; 0 at first, so that an `Option` would be
-    // read as 0.
+    // The ID that was chosen last, above which the next is looked for; 0 at first, so that an
+    // `Option` would be read as 0.
     last: SmfId,
     is_open: bool,
     ghost few: { vec_len sets ≤ capacity },
@@ -48,9 +49,9 @@ impl TurningDirectory {
         }
     }
 
-    /// The line's SMF serves its slice and DNN too, which it may do already. All is checked before any memory is asked for: a
-    /// line with a DNN number that is not 1 to 64 or with SMF ID 0 is refused, and a 65th pair of a slice and an SMF. On an
-    /// error all is as it was.
+    /// The line's SMF serves its slice and DNN too, which it may do already. All is checked before
+    /// any memory is asked for: a line with a DNN number that is not 1 to 64 or with SMF ID 0 is
+    /// refused, and a 65th pair of a slice and an SMF. On an error all is as it was.
     #[tactic(auto, using(crate::proofs::Joins::joined_by))]
     pub fn add(&mut self, line: ServiceLine) -> Result<(), SetupError>
         ensures sets { Joining self.old.sets.items line self.new.sets.items result }
@@ -124,7 +125,8 @@ impl Directory for TurningDirectory {
         ensures opening { self.new.is_open ≡ self.old.is_open }
         ensures serving { SameServing (sets_serve self.old.sets.items) (sets_serve self.new.sets.items) }
         ensures turn { Turned (serve_wanted self.old.sets.items wanted) self.old.last self.new.last result }
-        // where two serve, the one that was chosen last is not chosen again: two choices in a row differ
+        // where two serve, the one that was chosen last is not chosen again: two choices in a row
+        // differ
         ensures differs { TwoServe (serve_wanted self.old.sets.items wanted) → result ≢ Ok self.old.last }
         ensures same { self.new.sets.items ≡ self.old.sets.items }
     {

@@ -9,8 +9,8 @@ use codes::{DnnNumber, RequestType, SessionId, SliceCode, SliceDnn, SmfId};
 use records::{Configuration, UeRecord};
 use stores::{Context, PduSession};
 
-/// What a UE asks for one of its sessions: a message but for its octets, and what the host tells of its sender and of the
-/// core.
+/// What a UE asks for one of its sessions: a message but for its octets, and what the host tells of
+/// its sender and of the core.
 #[derive(Clone, Copy)]
 pub struct Inquiry<'a> {
     pub record: UeRecord<'a>,

@@ -39,8 +39,8 @@ fn rule<S: Store, D: Directory>(
 ) -> Verdict
     ensures value { let c = posed inquiry.now (S.Store.contexts store.now) controls.now in
         result ≡ verdict c (D.Directory.opened directory.old) (smf_of result.decision) }
-    ensures directory { let asked = has_choice (posed inquiry.now (S.Store.contexts store.now) controls.now) in
-        ConsultedFor D.Directory asked result directory.old directory.new }
+    ensures directory { let c = posed inquiry.now (S.Store.contexts store.now) controls.now in
+        ConsultedFor D.Directory (has_choice c) result directory.old directory.new }
 {
     let context = store.find(inquiry.pdu_session());
     let used = inquiry.slice_and_dnn(context);
@@ -56,8 +56,9 @@ fn rule<S: Store, D: Directory>(
     }
 }
 
-/// The verdict on what a UE asks, over the contexts of the store and the control lines, by the first rule that applies.
-/// The directory is asked once where the rules leave it the choice, and is else left as it was.
+/// The verdict on what a UE asks, over the contexts of the store and the control lines, by the
+/// first rule that applies. The directory is asked once where the rules leave it the choice, and is
+/// else left as it was.
 pub fn judge<S: Store, D: Directory>(
     inquiry: &Inquiry<'_>,
     store: &S,
@@ -66,8 +67,8 @@ pub fn judge<S: Store, D: Directory>(
 ) -> Verdict
     ensures judged { let c = posed inquiry.now (S.Store.contexts store.now) controls.now in
         JudgedBy D.Directory c directory.old result }
-    ensures directory { let asked = has_choice (posed inquiry.now (S.Store.contexts store.now) controls.now) in
-        ConsultedFor D.Directory asked result directory.old directory.new }
+    ensures directory { let c = posed inquiry.now (S.Store.contexts store.now) controls.now in
+        ConsultedFor D.Directory (has_choice c) result directory.old directory.new }
 {
     rule(inquiry, store, controls, directory)
 }

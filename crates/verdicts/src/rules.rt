@@ -16,7 +16,8 @@ use codes::{Cause, RequestType, SliceDnn, SmfId};
 use control::{ControlKey, ControlTable};
 use stores::{Context, PduSession, Store};
 
-// Whether it is an initial request of a UE that awaits a mobility registration and has an emergency context.
+// Whether it is an initial request of a UE that awaits a mobility registration and has an emergency
+// context.
 #[tactic(auto, unfolding(crate::specs::Rules::awaits_with_emergency))]
 fn awaits_with_emergency<S: Store>(
     inquiry: &Inquiry<'_>,
@@ -32,7 +33,8 @@ fn awaits_with_emergency<S: Store>(
     context.is_some_and(|context| context.emergency) || other.is_some()
 }
 
-// The cause of a control line for the DNN, or else for the slice and the DNN, or else for the slice.
+// The cause of a control line for the DNN, or else for the slice and the DNN, or else for the
+// slice.
 fn control_cause(controls: &ControlTable<'_>, used: SliceDnn) -> Option<Cause>
     ensures { result ≡ control_cause (back_off_of controls.now) used }
 {
@@ -58,7 +60,8 @@ fn congestion(inquiry: &Inquiry<'_>, controls: &ControlTable<'_>, used: SliceDnn
     control_cause(controls, used)
 }
 
-// Whether the request is initial or existing, and the UE has as many other contexts as it may have sessions.
+// Whether the request is initial or existing, and the UE has as many other contexts as it may have
+// sessions.
 #[tactic(auto, unfolding(crate::specs::Rules::at_limit))]
 fn is_at_limit<S: Store>(inquiry: &Inquiry<'_>, store: &S) -> bool
     ensures { result ≡ at_limit (asked inquiry.now) (S.Store.contexts store.now) }
