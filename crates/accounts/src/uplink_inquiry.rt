@@ -17,7 +17,7 @@ pub fn inquiry<'a>(
     configuration: Configuration,
     book: &Book,
 ) -> Inquiry<'a>
-    ensures { asked result ≡ inquiry_of (own_names book.now.names.items) configuration (plain ue.entry) (decoded uplink.now) }
+    ensures { asked result ≡ inquiry_of (book.now) configuration (plain ue.entry) (decoded uplink.now) }
 {
     Inquiry {
         record: ue,

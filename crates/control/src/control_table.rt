@@ -9,11 +9,22 @@ use crate::control_key::ControlKey;
 use crate::control_numbers::ControlNumbers;
 use crate::control_row::ControlRow;
 use codes::{HandedBack, Refusal};
+use std::marker::Model;
 use tables::Table;
 
 #[derive(Drop)]
 pub struct ControlTable<'a> {
     table: Table<'a, ControlRow>,
+}
+
+// A contract sees a table as its rows.
+impl<'a> Model for ControlTable<'a> {
+    ghost use Rattle.std.specs.Prelude.{List};
+    ghost use Rattle.control.specs.declared.control_row.ControlRow.{ControlRow};
+
+    ghost Value = { List ControlRow };
+
+    ghost view = { λ t. t.table.rows.now };
 }
 
 impl<'a> ControlTable<'a> {
@@ -32,7 +43,7 @@ impl<'a> ControlTable<'a> {
     pub fn new(
         rows: &'a mut [ControlRow],
     ) -> Result<ControlTable<'a>, HandedBack<&'a mut [ControlRow]>>
-        ensures { MatchResult result (λ t. (rows_fit (length rows.old) ≡ true) × (length t.table.rows.now ≡ length rows.old) × Empty t.table.rows.now) (λ h. (rows_fit (length rows.old) ≡ false) × (h.refusal ≡ Opening) × (h.value ≡ rows.entry)) }
+        ensures { MatchResult result (λ t. (rows_fit (length rows.old) ≡ true) × (length t ≡ length rows.old) × Empty t) (λ h. (rows_fit (length rows.old) ≡ false) × (h.refusal ≡ Opening) × (h.value ≡ rows.entry)) }
     {
         if let Err(refusal) = ControlTable::check_rows(rows.len()) {
             return Err(HandedBack {
@@ -48,14 +59,14 @@ impl<'a> ControlTable<'a> {
     // The back-off octet of the line of this key.
     #[tactic(auto, using(crate::proofs::Keyed::none_back_off, crate::proofs::Keyed::first_back_off))]
     pub fn back_off(&self, key: ControlKey) -> Option<u8>
-        ensures { result ≡ back_off_of self.now.table.rows.now key }
+        ensures { result ≡ back_off_of self.now key }
     {
         self.table.find(&key).and_then(|row| row.back_off())
     }
 
     // A line of this key: in the place of the one that there is, or one more.
     pub fn set(&mut self, numbers: ControlNumbers, back_off: u8) -> Result<(), Refusal>
-        ensures { Setting (key_in numbers.kind numbers.slice numbers.dnn) back_off self.old.table.rows.now self.new.table.rows.now result }
+        ensures { Setting (key_in numbers.kind numbers.slice numbers.dnn) back_off self.old self.new result }
     {
         let key = ControlKey::try_from(numbers)?;
         self.table
@@ -65,13 +76,12 @@ impl<'a> ControlTable<'a> {
 
     // Leaves no line of this key.
     pub fn clear(&mut self, numbers: ControlNumbers) -> Result<(), Refusal>
-        ensures { Clearing (key_in numbers.kind numbers.slice numbers.dnn) self.old.table.rows.now self.new.table.rows.now result }
+        ensures { Clearing (key_in numbers.kind numbers.slice numbers.dnn) self.old self.new result }
     {
         let key = ControlKey::try_from(numbers)?;
-        if self.table.remove(&key) {
-            Ok(())
-        } else {
-            Err(Refusal::ControlKind)
+        if !self.table.remove(&key) {
+            return Err(Refusal::ControlKind);
         }
+        Ok(())
     }
 }

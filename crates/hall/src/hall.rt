@@ -147,9 +147,9 @@ impl Hall {
         table: &mut ControlTable<'_>,
         change: &Change,
     ) -> Result<(), NotDone>
-        ensures outcome { IfSome (outcome_of result) (λ o. OutcomeFor self.old.directory table.old.table.rows.now (wanted change.now) o) }
+        ensures outcome { IfSome (outcome_of result) (λ o. OutcomeFor self.old.directory table.old (wanted change.now) o) }
         ensures hall { IfSome (outcome_of result) (λ o. HallAfter self.old (wanted change.now) o self.new) }
-        ensures rows { IfSome (outcome_of result) (λ o. RowsAfter table.old.table.rows.now (wanted change.now) o table.new.table.rows.now) }
+        ensures rows { IfSome (outcome_of result) (λ o. RowsAfter table.old (wanted change.now) o table.new) }
     {
         match change {
             Change::Book(names) => self.make_book(heap, names.as_slice())?,

@@ -17,7 +17,7 @@ pub(crate) struct Opening {
 impl Opening {
     // Refuses what a router over an empty store would refuse.
     pub(crate) fn check(&self, book: &Book) -> Result<(), Refusal>
-        ensures { result ≡ (if configuration_fits (length book.now.names.items) self.now.configuration && nat_lt 0 self.now.first then Ok tt else Err refusal.Opening) }
+        ensures { result ≡ (if configuration_fits (length book.now) self.now.configuration && nat_lt 0 self.now.first then Ok tt else Err refusal.Opening) }
     {
         self.configuration.check(book)?;
         if self.first == 0 {

@@ -7,11 +7,24 @@ use crate::name::{Name, place_in};
 use codes::{DnnNumber, Refusal, SetupError};
 use std::alloc::{AllocError, Global};
 use std::convert::AsSlice;
+use std::marker::Model;
 
 #[derive(Drop)]
 pub struct Book {
     names: Vec<Name>,
-    ghost good: { GoodNames (own_names names.items) },
+}
+
+// A contract sees a book as its names, in their order.
+impl Model for Book {
+    ghost use Rattle.std.specs.Prelude.{ℕ, List};
+    ghost use Rattle.names.specs.Names.{GoodNames};
+    ghost use Rattle.names.specs.OwnNames.{own_names};
+
+    ghost Value = { List (List ℕ) };
+
+    ghost view = { λ b. own_names b.names.items };
+
+    ghost invariant = { λ b. GoodNames (own_names b.names.items) };
 }
 
 // Whether a book can have `name` behind the earlier ones.
@@ -59,7 +72,7 @@ fn copy_names<N: AsSlice<u8>>(heap: Global, names: &[N]) -> Result<Vec<Name>, Al
 impl Book {
     // The names are checked before any memory is asked for.
     pub fn new(heap: Global, names: &[&[u8]]) -> Result<Book, SetupError>
-        ensures { MatchResult result (λ b. Made (lent_names names.now) (own_names b.names.items)) (λ e. Unmade (lent_names names.now) e) }
+        ensures { MatchResult result (λ b. Made (lent_names names.now) b) (λ e. Unmade (lent_names names.now) e) }
     {
         if !good_names(names) {
             return Err(SetupError::from(Refusal::Opening));
@@ -70,14 +83,14 @@ impl Book {
 
     // The number of the name that is the same, or 0, which stands for a name that is not in the book.
     pub fn number_of(&self, octets: &[u8]) -> DnnNumber
-        ensures { Numbers (own_names self.now.names.items) octets.now result }
+        ensures { Numbers self.now octets.now result }
     {
         place_in(self.names.as_slice(), octets).map_or(0, |i| (i + 1) as DnnNumber)
     }
 
     // A book of its own with the same names.
     pub fn try_clone(&self, heap: Global) -> Result<Book, AllocError>
-        ensures { IfOk result (λ b. own_names b.names.items ≡ own_names self.now.names.items) }
+        ensures { IfOk result (λ b. b ≡ self.now) }
     {
         let names = copy_names(heap, self.names.as_slice())?;
         Ok(Book { names })
@@ -85,7 +98,7 @@ impl Book {
 
     // How many names there are.
     pub fn len(&self) -> usize
-        ensures { result ≡ length self.now.names.items }
+        ensures { result ≡ length self.now }
     {
         self.names.len()
     }

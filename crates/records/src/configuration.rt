@@ -20,7 +20,7 @@ pub struct Configuration {
 impl Configuration {
     // Refuses a configuration that names a DNN which is not in the book.
     pub fn check(&self, book: &Book) -> Result<(), Refusal>
-        ensures { result ≡ (if configuration_fits (length book.now.names.items) self.now then Ok tt else Err Opening) }
+        ensures { result ≡ (if configuration_fits (length book.now) self.now then Ok tt else Err Opening) }
     {
         if !(has_number(book, self.default.dnn) && has_number(book, self.emergency.dnn)) {
             return Err(Refusal::Opening);

@@ -15,7 +15,7 @@ pub struct KnownLine {
 
 impl KnownLine {
     pub(crate) fn is_in_bounds(&self, book: &Book) -> bool
-        ensures { result ≡ known_fits (length book.now.names.items) self.now }
+        ensures { result ≡ known_fits (length book.now) self.now }
     {
         is_session(self.session) && has_number(book, self.dnn) && self.smf > 0
     }

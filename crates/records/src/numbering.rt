@@ -7,7 +7,7 @@ use names::Book;
 
 // Whether the book has a name of this number.
 pub(crate) fn has_number(book: &Book, dnn: DnnNumber) -> bool
-    ensures { result ≡ in_book (length book.now.names.items) dnn }
+    ensures { result ≡ in_book (length book.now) dnn }
 {
     dnn > 0 && dnn as usize <= book.len()
 }

@@ -24,13 +24,13 @@ pub struct UeRecord<'a> {
 }
 
 fn are_subscriptions(lines: &[SubscriptionLine], book: &Book) -> bool
-    ensures { result ≡ list_all (subscription_fits (length book.now.names.items)) lines.now }
+    ensures { result ≡ list_all (subscription_fits (length book.now)) lines.now }
 {
     lines.iter().all(|line| has_number(book, line.dnn))
 }
 
 fn are_known(lines: &[KnownLine], book: &Book) -> bool
-    ensures { result ≡ list_all (known_fits (length book.now.names.items)) lines.now }
+    ensures { result ≡ list_all (known_fits (length book.now)) lines.now }
 {
     lines.iter().all(|line| line.is_in_bounds(book))
 }
@@ -38,7 +38,7 @@ fn are_known(lines: &[KnownLine], book: &Book) -> bool
 impl<'a> UeRecord<'a> {
     // Whether its numbers and lines are in bounds. Their DNN numbers have to be the book's.
     fn is_in_bounds(&self, book: &Book) -> bool
-        ensures { result ≡ record_fits (length book.now.names.items) (plain self.now) }
+        ensures { result ≡ record_fits (length book.now) (plain self.now) }
     {
         self.number > 0
             && (1..=15).contains(&self.session_limit)
@@ -50,7 +50,7 @@ impl<'a> UeRecord<'a> {
 
     // Refuses a record that is out of bounds.
     pub fn check(&self, book: &Book) -> Result<(), Refusal>
-        ensures { result ≡ (if record_fits (length book.now.names.items) (plain self.now) then Ok tt else Err RecordBounds) }
+        ensures { result ≡ (if record_fits (length book.now) (plain self.now) then Ok tt else Err RecordBounds) }
     {
         if !self.is_in_bounds(book) {
             return Err(Refusal::RecordBounds);

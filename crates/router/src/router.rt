@@ -92,7 +92,7 @@ impl<S: Store> Router<S> {
         }
         ensures output { MatchResult result (λ a. OutputAfter output.old output.new a.delivery) (λ _. output.new ≡ output.old) }
         ensures ticket { IfOk result (λ a. IsOpen (model self.new pool.new) a.delivery) }
-        ensures directory { let r = handed_by D.Directory ue.entry controls.now.table.rows.now directory.old (length pool.old) (length output.old) message.now in MatchResult result (λ a. Consulted D.Directory (asks (model self.old pool.old) r (read message.now)) a.verdict directory.old directory.new) (λ _. directory.new ≡ directory.old) }
+        ensures directory { let r = handed_by D.Directory ue.entry controls.now directory.old (length pool.old) (length output.old) message.now in MatchResult result (λ a. Consulted D.Directory (asks (model self.old pool.old) r (read message.now)) a.verdict directory.old directory.new) (λ _. directory.new ≡ directory.old) }
     {
         self.accept(ue, controls, directory, pool, output, message)
     }

@@ -41,10 +41,10 @@ fn rule<S: Store, D: Directory>(
     controls: &ControlTable<'_>,
     directory: &mut D,
 ) -> Verdict
-    ensures value { result ≡ verdict (case_of inquiry.now (S.Store.contexts store.now) (back_off_of controls.now.table.rows.now)) (D.Directory.opened directory.old) (smf_of result.decision) }
-    ensures choice { asks_directory (ruling (case_of inquiry.now (S.Store.contexts store.now) (back_off_of controls.now.table.rows.now))).outcome ≡ true → Chosen (D.Directory.opened directory.old) (D.Directory.serves directory.old result.used.slice result.used.dnn) (D.Directory.takes directory.old result.used.slice result.used.dnn) (answer_of (D.Directory.opened directory.old) (smf_of result.decision)) }
-    ensures unasked { asks_directory (ruling (case_of inquiry.now (S.Store.contexts store.now) (back_off_of controls.now.table.rows.now))).outcome ≡ false → directory.new ≡ directory.old }
-    ensures turn { asks_directory (ruling (case_of inquiry.now (S.Store.contexts store.now) (back_off_of controls.now.table.rows.now))).outcome ≡ true → D.Directory.turned directory.old result.used.slice result.used.dnn (answer_of (D.Directory.opened directory.old) (smf_of result.decision)) directory.new }
+    ensures value { result ≡ verdict (case_of inquiry.now (S.Store.contexts store.now) (back_off_of controls.now)) (D.Directory.opened directory.old) (smf_of result.decision) }
+    ensures choice { asks_directory (ruling (case_of inquiry.now (S.Store.contexts store.now) (back_off_of controls.now))).outcome ≡ true → Chosen (D.Directory.opened directory.old) (D.Directory.serves directory.old result.used.slice result.used.dnn) (D.Directory.takes directory.old result.used.slice result.used.dnn) (answer_of (D.Directory.opened directory.old) (smf_of result.decision)) }
+    ensures unasked { asks_directory (ruling (case_of inquiry.now (S.Store.contexts store.now) (back_off_of controls.now))).outcome ≡ false → directory.new ≡ directory.old }
+    ensures turn { asks_directory (ruling (case_of inquiry.now (S.Store.contexts store.now) (back_off_of controls.now))).outcome ≡ true → D.Directory.turned directory.old result.used.slice result.used.dnn (answer_of (D.Directory.opened directory.old) (smf_of result.decision)) directory.new }
     ensures opening { D.Directory.opened directory.new ≡ D.Directory.opened directory.old }
     ensures serving { (s n m : ℕ) → D.Directory.serves directory.new s n m ≡ D.Directory.serves directory.old s n m }
 {
@@ -70,9 +70,9 @@ pub fn judge<S: Store, D: Directory>(
     controls: &ControlTable<'_>,
     directory: &mut D,
 ) -> Verdict
-    ensures judged { Judged (case_of inquiry.now (S.Store.contexts store.now) (back_off_of controls.now.table.rows.now)) (D.Directory.opened directory.old) (D.Directory.serves directory.old) (D.Directory.takes directory.old) result }
-    ensures unasked { asks_directory (ruling (case_of inquiry.now (S.Store.contexts store.now) (back_off_of controls.now.table.rows.now))).outcome ≡ false → directory.new ≡ directory.old }
-    ensures turn { asks_directory (ruling (case_of inquiry.now (S.Store.contexts store.now) (back_off_of controls.now.table.rows.now))).outcome ≡ true → D.Directory.turned directory.old result.used.slice result.used.dnn (answer_of (D.Directory.opened directory.old) (smf_of result.decision)) directory.new }
+    ensures judged { Judged (case_of inquiry.now (S.Store.contexts store.now) (back_off_of controls.now)) (D.Directory.opened directory.old) (D.Directory.serves directory.old) (D.Directory.takes directory.old) result }
+    ensures unasked { asks_directory (ruling (case_of inquiry.now (S.Store.contexts store.now) (back_off_of controls.now))).outcome ≡ false → directory.new ≡ directory.old }
+    ensures turn { asks_directory (ruling (case_of inquiry.now (S.Store.contexts store.now) (back_off_of controls.now))).outcome ≡ true → D.Directory.turned directory.old result.used.slice result.used.dnn (answer_of (D.Directory.opened directory.old) (smf_of result.decision)) directory.new }
     ensures opening { D.Directory.opened directory.new ≡ D.Directory.opened directory.old }
     ensures serving { (s n m : ℕ) → D.Directory.serves directory.new s n m ≡ D.Directory.serves directory.old s n m }
 {

@@ -34,7 +34,7 @@ fn awaits_with_emergency<S: Store>(
 
 // The cause of a control line for the DNN, or else for the slice and the DNN, or else for the slice.
 fn control_cause(controls: &ControlTable<'_>, used: SliceDnn) -> Option<Cause>
-    ensures { result ≡ control_cause (back_off_of controls.now.table.rows.now) used }
+    ensures { result ≡ control_cause (back_off_of controls.now) used }
 {
     if let Some(octet) = controls.back_off(ControlKey::Dnn(used.dnn)) {
         return Some(Cause::Congestion(octet));
@@ -50,7 +50,7 @@ fn control_cause(controls: &ControlTable<'_>, used: SliceDnn) -> Option<Cause>
 // That cause, for a request that congestion holds off.
 #[tactic(auto, unfolding(crate::specs::Rules::congestion))]
 fn congestion(inquiry: &Inquiry<'_>, controls: &ControlTable<'_>, used: SliceDnn) -> Option<Cause>
-    ensures { result ≡ congestion (asked inquiry.now) (back_off_of controls.now.table.rows.now) used }
+    ensures { result ≡ congestion (asked inquiry.now) (back_off_of controls.now) used }
 {
     if !inquiry.is_held_off() {
         return None;
@@ -91,7 +91,7 @@ fn objection<S: Store>(
     context: Option<Context>,
     used: SliceDnn,
 ) -> Option<Cause>
-    ensures { result ≡ objection (asked inquiry.now) (S.Store.contexts store.now) (back_off_of controls.now.table.rows.now) context used }
+    ensures { result ≡ objection (asked inquiry.now) (S.Store.contexts store.now) (back_off_of controls.now) context used }
 {
     if awaits_with_emergency(inquiry, store, context) {
         return Some(Cause::NotForwarded);
@@ -213,7 +213,7 @@ pub(crate) fn ruling<S: Store>(
     context: Option<Context>,
     used: SliceDnn,
 ) -> Ruling
-    ensures { result ≡ ruling_with (asked inquiry.now) (S.Store.contexts store.now) (back_off_of controls.now.table.rows.now) context used }
+    ensures { result ≡ ruling_with (asked inquiry.now) (S.Store.contexts store.now) (back_off_of controls.now) context used }
 {
     match objection(inquiry, store, controls, context, used) {
         Some(cause) => returned(cause),

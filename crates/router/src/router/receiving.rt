@@ -96,9 +96,9 @@ impl<S: Store> Router<S> {
         controls: &ControlTable<'_>,
         directory: &mut D,
     ) -> Verdict
-        ensures judged { Judged (case_on (core self.now) (S.Store.contexts self.now.store) (judged_by D.Directory ue.entry controls.now.table.rows.now directory.old) (decoded uplink.now)) (D.Directory.opened directory.old) (D.Directory.serves directory.old) (D.Directory.takes directory.old) result }
-        ensures unasked { asks (model self.now []) (judged_by D.Directory ue.entry controls.now.table.rows.now directory.old) (Ok (decoded uplink.now)) ≡ false → directory.new ≡ directory.old }
-        ensures turn { asks (model self.now []) (judged_by D.Directory ue.entry controls.now.table.rows.now directory.old) (Ok (decoded uplink.now)) ≡ true → D.Directory.turned directory.old result.used.slice result.used.dnn (answer_of (D.Directory.opened directory.old) (smf_of result.decision)) directory.new }
+        ensures judged { Judged (case_on (core self.now) (S.Store.contexts self.now.store) (judged_by D.Directory ue.entry controls.now directory.old) (decoded uplink.now)) (D.Directory.opened directory.old) (D.Directory.serves directory.old) (D.Directory.takes directory.old) result }
+        ensures unasked { asks (model self.now []) (judged_by D.Directory ue.entry controls.now directory.old) (Ok (decoded uplink.now)) ≡ false → directory.new ≡ directory.old }
+        ensures turn { asks (model self.now []) (judged_by D.Directory ue.entry controls.now directory.old) (Ok (decoded uplink.now)) ≡ true → D.Directory.turned directory.old result.used.slice result.used.dnn (answer_of (D.Directory.opened directory.old) (smf_of result.decision)) directory.new }
         ensures opening { D.Directory.opened directory.new ≡ D.Directory.opened directory.old }
         ensures serving { (s n m : ℕ) → D.Directory.serves directory.new s n m ≡ D.Directory.serves directory.old s n m }
     {
@@ -116,9 +116,9 @@ impl<S: Store> Router<S> {
     ) -> Verdict
         requires ue_in { record_fits (length (core self.now).names) (plain ue) ≡ true }
         requires session { in_range uplink.now.session ≡ true }
-        ensures value { let r = judged_by D.Directory ue.entry controls.now.table.rows.now directory.old in result ≡ verdict_on (core self.now) (S.Store.contexts self.now.store) r (choice_for (model self.now []) r result (Ok (decoded uplink.now))) (decoded uplink.now) }
-        ensures choice { let r = judged_by D.Directory ue.entry controls.now.table.rows.now directory.old in RightChoice (core self.now) (S.Store.contexts self.now.store) r (choice_for (model self.now []) r result (Ok (decoded uplink.now))) (decoded uplink.now) }
-        ensures directory { Consulted D.Directory (asks (model self.now []) (judged_by D.Directory ue.entry controls.now.table.rows.now directory.old) (Ok (decoded uplink.now))) result directory.old directory.new }
+        ensures value { let r = judged_by D.Directory ue.entry controls.now directory.old in result ≡ verdict_on (core self.now) (S.Store.contexts self.now.store) r (choice_for (model self.now []) r result (Ok (decoded uplink.now))) (decoded uplink.now) }
+        ensures choice { let r = judged_by D.Directory ue.entry controls.now directory.old in RightChoice (core self.now) (S.Store.contexts self.now.store) r (choice_for (model self.now []) r result (Ok (decoded uplink.now))) (decoded uplink.now) }
+        ensures directory { Consulted D.Directory (asks (model self.now []) (judged_by D.Directory ue.entry controls.now directory.old) (Ok (decoded uplink.now))) result directory.old directory.new }
         ensures bounded { (c : code.Context) → context_of result ue.entry.number uplink.now.session ≡ Some c → fits c ≡ true }
     {
         self.judge(uplink, ue, controls, directory)
@@ -202,11 +202,11 @@ impl<S: Store> Router<S> {
         output: &mut [u8],
     ) -> Answer
         requires admitted { Admitted (model self.old pool.old) (plain ue) (length pool.old) (length output.old) admission.now }
-        ensures accepted { (octets : List ℕ) → let r = handed_by D.Directory ue.entry controls.now.table.rows.now directory.old (length pool.old) (length output.old) octets in Accepted (model self.old pool.old) r (choice_for (model self.old pool.old) r result.verdict (Ok (decoded admission.now.uplink))) (ticket_in result.delivery) (decoded admission.now.uplink) (model self.new pool.new) }
-        ensures answer { (octets : List ℕ) → let r = handed_by D.Directory ue.entry controls.now.table.rows.now directory.old (length pool.old) (length output.old) octets in told output.new result ≡ answer_to (core self.old) self.old.next (S.Store.contexts self.old.store) r (choice_for (model self.old pool.old) r result.verdict (Ok (decoded admission.now.uplink))) (decoded admission.now.uplink) }
+        ensures accepted { (octets : List ℕ) → let r = handed_by D.Directory ue.entry controls.now directory.old (length pool.old) (length output.old) octets in Accepted (model self.old pool.old) r (choice_for (model self.old pool.old) r result.verdict (Ok (decoded admission.now.uplink))) (ticket_in result.delivery) (decoded admission.now.uplink) (model self.new pool.new) }
+        ensures answer { (octets : List ℕ) → let r = handed_by D.Directory ue.entry controls.now directory.old (length pool.old) (length output.old) octets in told output.new result ≡ answer_to (core self.old) self.old.next (S.Store.contexts self.old.store) r (choice_for (model self.old pool.old) r result.verdict (Ok (decoded admission.now.uplink))) (decoded admission.now.uplink) }
         ensures output { OutputAfter output.old output.new result.delivery }
         ensures ticket { IsOpen (model self.new pool.new) result.delivery }
-        ensures directory { Consulted D.Directory (asks (model self.old pool.old) (judged_by D.Directory ue.entry controls.now.table.rows.now directory.old) (Ok (decoded admission.now.uplink))) result.verdict directory.old directory.new }
+        ensures directory { Consulted D.Directory (asks (model self.old pool.old) (judged_by D.Directory ue.entry controls.now directory.old) (Ok (decoded admission.now.uplink))) result.verdict directory.old directory.new }
     {
         let uplink = &admission.uplink;
         let verdict = self.decide(uplink, ue, controls, directory);
@@ -235,10 +235,10 @@ impl<S: Store> Router<S> {
         output: &mut [u8],
         message: &[u8],
     ) -> Result<Answer, Refusal>
-        ensures does { let r = handed_by D.Directory ue.entry controls.now.table.rows.now directory.old (length pool.old) (length output.old) message.now in let a = answer_in output.new result in Receives (model self.old pool.old) r (chosen_in (model self.old pool.old) r a) (ticket_of result) a (model self.new pool.new) }
+        ensures does { let r = handed_by D.Directory ue.entry controls.now directory.old (length pool.old) (length output.old) message.now in let a = answer_in output.new result in Receives (model self.old pool.old) r (chosen_in (model self.old pool.old) r a) (ticket_of result) a (model self.new pool.new) }
         ensures output { MatchResult result (λ a. OutputAfter output.old output.new a.delivery) (λ _. output.new ≡ output.old) }
         ensures ticket { IfOk result (λ a. IsOpen (model self.new pool.new) a.delivery) }
-        ensures directory { MatchResult result (λ a. Consulted D.Directory (asks (model self.old pool.old) (judged_by D.Directory ue.entry controls.now.table.rows.now directory.old) (read message.now)) a.verdict directory.old directory.new) (λ _. directory.new ≡ directory.old) }
+        ensures directory { MatchResult result (λ a. Consulted D.Directory (asks (model self.old pool.old) (judged_by D.Directory ue.entry controls.now directory.old) (read message.now)) a.verdict directory.old directory.new) (λ _. directory.new ≡ directory.old) }
     {
         let admission = self.admit(ue, pool, output, message)?;
         Ok(self.handle(&admission, ue, controls, directory, pool, output))
