@@ -9,7 +9,7 @@ ghost use Rattle.grid.specs.Laws.{laws_of};
 use crate::ue_row::UeRow;
 use codes::{SessionId, UeNumber};
 use stores::{Context, NoRoom, PduSession, Store};
-use tables::{all_free, find_row, find_target};
+use tables::{all_free, find_row, find_target, get_row};
 
 // No UE has two rows in use, and no context is out of bounds. The rows are an array, since a store takes no memory from a heap.
 #[derive(Drop)]
@@ -41,7 +41,7 @@ impl GridStore {
     fn row_of(&self, ue: UeNumber) -> Option<&UeRow>
         ensures { Gets is_free ue_of ue self.now.rows result }
     {
-        self.index_of(ue).map(|i| &self.rows[i])
+        get_row(&self.rows, &ue)
     }
 }
 
@@ -85,7 +85,8 @@ impl Store for GridStore {
             return Err(NoRoom);
         }
         let i = find_target(&self.rows, &context.ue).ok_or(NoRoom)?;
-        self.rows[i].put(context);
+        let rows = &mut self.rows[..];
+        rows[i].put(context);
         Ok(())
     }
 
@@ -93,6 +94,7 @@ impl Store for GridStore {
         let Some(i) = self.index_of(session.ue) else {
             return false;
         };
-        self.rows[i].remove(session.id)
+        let rows = &mut self.rows[..];
+        rows[i].remove(session.id)
     }
 }

@@ -1,5 +1,6 @@
 // Finding a row among rows of any kind.
 ghost use Rattle.tables.specs.Rows.{Finds, FindsFree, FindsTarget, AllFree};
+ghost use Rattle.tables.specs.Tables.{Gets};
 ghost use Rattle.std.specs.Prelude.{Decides};
 
 use crate::row::Row;
@@ -10,6 +11,13 @@ pub fn find_row<R: Row>(rows: &[R], key: &R::Key) -> Option<usize>
 {
     rows.iter()
         .position(|row| !row.is_free() && row.key() == *key)
+}
+
+// The first row that is in use and has the key, itself.
+pub fn get_row<'a, R: Row>(rows: &'a [R], key: &R::Key) -> Option<&'a R>
+    ensures { Gets R.Row.free R.Row.named key.now rows.now result }
+{
+    find_row(rows, key).map(|i| &rows[i])
 }
 
 // The first free row.

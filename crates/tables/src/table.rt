@@ -3,7 +3,7 @@ ghost use Rattle.std.specs.Prelude.{◌≡◌, length};
 ghost use Rattle.tables.specs.Rows.{AllFree, Apart};
 ghost use Rattle.tables.specs.Tables.{Gets, Sets, Removes};
 
-use crate::finding::{find_row, find_target};
+use crate::finding::{find_row, find_target, get_row};
 use crate::row::Row;
 
 #[derive(Drop)]
@@ -39,7 +39,7 @@ impl<'a, R: Row> Table<'a, R> {
     pub fn find(&self, key: &R::Key) -> Option<&R>
         ensures { Gets R.Row.free R.Row.named key.now self.now.rows.now result }
     {
-        find_row(self.rows, key).map(|i| &self.rows[i])
+        get_row(self.rows, key)
     }
 
     // Replaces the row that is in use under the new row's key, or takes a free one.
