@@ -5,6 +5,7 @@ ghost use Rattle.stores.specs.Contexts.{fits};
 use crate::pdu_session::PduSession;
 use codes::{DnnNumber, SessionId, SliceCode, SmfId, UeNumber};
 
+/// Which SMF has a PDU session, and for which slice and DNN; the numbers may be out of bounds.
 // Plain fields, as each is read by itself: a nested `PduSession` or `SliceDnn` would only lengthen that.
 #[derive(Clone, Copy)]
 pub struct Context {
@@ -17,7 +18,7 @@ pub struct Context {
 }
 
 impl Context {
-    // Whose context it is.
+    /// Whose context it is.
     pub fn pdu_session(&self) -> PduSession
         ensures ue { result.ue ≡ self.now.ue }
         ensures id { result.id ≡ self.now.session }
@@ -28,7 +29,7 @@ impl Context {
         }
     }
 
-    // Whether a store can have it.
+    /// Whether a store can have it: its session is in bounds, its SMF ID is 1 or more, its DNN number 64 or less.
     pub fn is_in_bounds(&self) -> bool
         ensures { result ≡ fits self.now }
     {
