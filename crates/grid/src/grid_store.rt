@@ -4,6 +4,7 @@ ghost use Rattle.tables.specs.Rows.{Apart, Finds};
 ghost use Rattle.tables.specs.Tables.{Gets};
 ghost use Rattle.stores.specs.Contexts.{in_bounds, lookup};
 ghost use Rattle.grid.specs.Grids.{is_free, ue_of, contexts_in, room_in};
+ghost use Rattle.grid.specs.declared.grid_store.TheConstants.{ROWS};
 ghost use Rattle.grid.specs.Laws.{laws_of};
 
 use crate::ue_row::UeRow;
@@ -11,22 +12,26 @@ use codes::{SessionId, UeNumber};
 use stores::{Context, NoRoom, PduSession, Store};
 use tables::{all_free, find_row, find_target, get_row};
 
-// No UE has two rows in use, and no context is out of bounds. The rows are an array, since a store takes no memory from a heap.
+const ROWS: usize = 32;
+
+/// A store of its own 32 rows, each of one UE while it has a context, with a place for each of 15 sessions.
+// No UE has two rows in use, and no context is out of bounds.
+// The rows are an array, since a store takes no memory from a heap.
 #[derive(Drop)]
 pub struct GridStore {
-    rows: [UeRow; 32],
-    ghost size: { length rows ≡ 32 },
+    rows: [UeRow; ROWS],
+    ghost size: { length rows ≡ «ROWS» },
     ghost apart: { Apart is_free ue_of rows },
     ghost bounds: { (u k : ℕ) → in_bounds (lookup (contexts_in rows) u k) ≡ true },
 }
 
 impl GridStore {
-    // An empty store.
+    /// An empty store.
     pub fn new() -> GridStore
         ensures { contexts_in result.rows ≡ [] }
     {
         GridStore {
-            rows: [UeRow::new(); 32],
+            rows: [UeRow::new(); ROWS],
         }
     }
 
@@ -48,11 +53,13 @@ impl GridStore {
 impl Store for GridStore {
     ghost contexts = { λ s. contexts_in s.rows };
 
-    ghost floor = { λ s. 32 };
+    ghost floor = { λ s. «ROWS» };
 
     ghost room = { λ s u k. room_in s.rows u k };
 
-    ghost laws = { λ s. laws_of s.rows (record { size = s.size; apart = s.apart; bounds = s.bounds }) };
+    ghost laws = {
+        λ s. laws_of s.rows (record { size = s.size; apart = s.apart; bounds = s.bounds })
+    };
 
     fn floor(&self) -> usize {
         self.rows.len()

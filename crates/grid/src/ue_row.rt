@@ -83,7 +83,9 @@ impl UeRow {
     // Leaves no context of the session. True where there was one.
     pub(crate) fn remove(&mut self, session: SessionId) -> bool
         ensures stood { result ≡ is_some (context_at self.old session) }
-        ensures change { MatchBool result (Writes self.old self.new self.old.ue session None) (self.new ≡ self.old) }
+        ensures change {
+            MatchBool result (Writes self.old self.new self.old.ue session None) (self.new ≡ self.old)
+        }
     {
         if self.context(session).is_none() {
             return false;
