@@ -46,7 +46,8 @@ fn remove_row(table: &mut Table<'_, ContextRow>, session: PduSession) -> bool
 }
 
 impl<'a> FlatStore<'a> {
-    /// Whether a store can have so many rows, from 16 to 256. Others are refused as what is opened out of bounds.
+    /// Whether a store can have so many rows: from `MIN_ROWS` to `MAX_ROWS`.
+    /// Others are refused, as all that is opened out of bounds.
     pub fn check_rows(count: usize) -> Result<(), Refusal>
         ensures { numbered result ≡ (if rows_fit count then Ok tt else refuse Opening) }
     {
@@ -56,8 +57,8 @@ impl<'a> FlatStore<'a> {
         Ok(())
     }
 
-    /// An empty store over 16 to 256 rows, which are freed.
-    /// Others are refused as what is opened out of bounds, and handed back as they were.
+    /// An empty store over rows, `MIN_ROWS` to `MAX_ROWS` of them, which are freed.
+    /// Others are refused, as all that is opened out of bounds, and handed back as they were.
     #[tactic(auto, using(crate::proofs::Tells::none_held))]
     pub fn new(
         rows: &'a mut [ContextRow],

@@ -1,5 +1,5 @@
 -- What the calls on the rows tell of the contexts in them.
-use Rattle.std.proofs.Common.{◌≡◌, ℕ, ◌+◌, ◌<◌, Bool, true, false, cond, not, ◌&&◌, eqb, ltb, List, length, get_or, set, replicate, is_some, Some, None, MatchBool, MatchOption, Option, Bor, sym, refl, ap, ◌∙◌, subst, inl, ⊎_elim, arith, length-set}
+use Rattle.std.proofs.Common.{◌≡◌, ℕ, ◌+◌, ◌<◌, Bool, true, false, cond, not, ◌&&◌, eqb, ltb, List, get_or, set, replicate, is_some, Some, None, MatchBool, MatchOption, Option, Bor, sym, refl, ap, ◌∙◌, subst, inl, ⊎_elim, arith, length-set}
 use lib.ListN.{length-replicate, get_or-replicate}
 use Rattle.std.specs.Option.{option_map}
 use Rattle.std.proofs.lemmas.List.{set-get_or}

@@ -14,7 +14,8 @@ use tables::{all_free, find_row, find_target, get_row};
 
 const ROWS: usize = 32;
 
-/// A store of its own 32 rows, each of one UE while it has a context, with a place for each of 15 sessions.
+/// A store of 32 rows of its own: each is one UE's while that has a context in it, and has a place
+/// for each of 15 sessions.
 // No UE has two rows in use, and no context is out of bounds.
 // The rows are an array, since a store takes no memory from a heap.
 #[derive(Drop)]
@@ -57,9 +58,8 @@ impl Store for GridStore {
 
     ghost room = { λ s u k. room_in s.rows u k };
 
-    ghost laws = {
-        λ s. laws_of s.rows (record { size = s.size; apart = s.apart; bounds = s.bounds })
-    };
+    ghost laws = { λ s. laws_of s.rows
+        (record { size = s.size; apart = s.apart; bounds = s.bounds }) };
 
     fn floor(&self) -> usize {
         self.rows.len()

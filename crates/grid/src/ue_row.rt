@@ -10,13 +10,15 @@ use codes::{SessionId, UeNumber, is_session};
 use stores::Context;
 use tables::Row;
 
+const PLACES: usize = 15;
+
 // The places are an array, since a store takes no memory from a heap.
 #[derive(Clone, Copy)]
 pub struct UeRow {
     ue: UeNumber,
     // how many places are filled, so that a free row is told by one number
     held: u8,
-    places: [Option<Place>; 15],
+    places: [Option<Place>; PLACES],
     ghost counted: { held ≡ held_count places },
 }
 
@@ -29,7 +31,7 @@ impl UeRow {
         UeRow {
             ue: 0,
             held: 0,
-            places: [None; 15],
+            places: [None; PLACES],
         }
     }
 
@@ -83,9 +85,8 @@ impl UeRow {
     // Leaves no context of the session. True where there was one.
     pub(crate) fn remove(&mut self, session: SessionId) -> bool
         ensures stood { result ≡ is_some (context_at self.old session) }
-        ensures change {
-            MatchBool result (Writes self.old self.new self.old.ue session None) (self.new ≡ self.old)
-        }
+        ensures change { MatchBool result (Writes self.old self.new self.old.ue session None)
+            (self.new ≡ self.old) }
     {
         if self.context(session).is_none() {
             return false;

@@ -6,7 +6,7 @@ use crate::pdu_session::PduSession;
 use codes::{DnnNumber, SessionId, SliceCode, SmfId, UeNumber};
 
 /// Which SMF has a PDU session, and for which slice and DNN; the numbers may be out of bounds.
-// Plain fields, as each is read by itself: a nested `PduSession` or `SliceDnn` would only lengthen that.
+// Plain fields, as each is read by itself: nesting would only lengthen that.
 #[derive(Clone, Copy)]
 pub struct Context {
     pub ue: UeNumber,
@@ -29,7 +29,8 @@ impl Context {
         }
     }
 
-    /// Whether a store can have it: its session is in bounds, its SMF ID is 1 or more, its DNN number 64 or less.
+    /// Whether a store can have it: its session is in bounds, its SMF ID is from 1 on,
+    /// and its DNN number is 64 at most.
     pub fn is_in_bounds(&self) -> bool
         ensures { result ≡ fits self.now }
     {

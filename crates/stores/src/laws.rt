@@ -1,8 +1,8 @@
 // What holds of every store, whatever its make.
 ghost use Rattle.stores.specs.Finding.{Law};
 
-// What is put is found, what is removed is not, other sessions stay as they were, and there is room below the floor. It is
-// called by nobody: it is there for its contract.
+// What is put is found, what is removed is not, other sessions stay as they were, and below the floor
+// there is room. It is called by nobody: it is there for its contract.
 #[tactic(auto, using(crate::proofs::Finding::law))]
 fn law_of_stores()
     ensures { Law }

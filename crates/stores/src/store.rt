@@ -9,8 +9,8 @@ use crate::no_room::NoRoom;
 use crate::pdu_session::PduSession;
 use codes::SessionId;
 
-/// A host's choice of how contexts are kept, known only by its meaning: the contexts, the floor and the room.
-/// `find` and the other questions change nothing; `put` and `remove` leave other sessions as they were.
+/// What keeps contexts, known only by its meaning: the contexts, the floor and the room.
+/// Only `put` and `remove` change it, and they leave other sessions as they were.
 pub trait Store {
     // the contexts, in no order that means anything
     ghost contexts: { Self → List Context };
@@ -46,14 +46,16 @@ pub trait Store {
         ensures value { result ≡ lowest_emergency (contexts self.now) session.ue session.id }
         ensures lowest { Lowest (emergency_at (contexts self.now) session.ue session.id) result };
 
-    /// Replaces the context of its session or adds it. `NoRoom` where it is out of bounds or there is no room;
-    /// then nothing changes.
+    /// Replaces the context of its session or adds it.
+    /// `NoRoom` where it is out of bounds or there is no room; then nothing changes.
     fn put(&mut self, context: Context) -> Result<(), NoRoom>
         ensures room { is_ok result ≡ (fits context && room self.old context.ue context.session) }
-        ensures puts { Puts context (contexts self.old) (contexts self.new) (room self.old) (room self.new) result }
+        ensures puts { Puts context (contexts self.old) (contexts self.new)
+            (room self.old) (room self.new) result }
         ensures floor { floor self.new ≡ floor self.old };
 
-    /// Leaves no context of the session. True where there was one: a bool, as the library's sets answer.
+    /// Leaves no context of the session.
+    /// True where there was one: a bool, as the library's sets answer.
     fn remove(&mut self, session: PduSession) -> bool
         ensures removes { Removes session.ue session.id (contexts self.old) (contexts self.new)
             (room self.old) (room self.new) result }
