@@ -6,7 +6,8 @@ ghost use Rattle.flat.specs.Held.{held_other, held_emergency};
 use codes::SessionId;
 use stores::{Context, NoRoom, PduSession};
 
-// One type with a control table's row would be no plainer: the context would need a type around it for the ghost field.
+/// A row of a flat store, which the host lends: a context in bounds, or nothing.
+// One type with a control table's row would be no plainer: its context would need a type of its own.
 #[derive(Clone, Copy)]
 pub struct ContextRow {
     pub(crate) held: Option<Context>,
@@ -14,7 +15,7 @@ pub struct ContextRow {
 }
 
 impl ContextRow {
-    // A free row.
+    /// A free row.
     pub fn free() -> ContextRow
         ensures { result.held ≡ None }
     {
@@ -41,7 +42,8 @@ impl ContextRow {
 impl TryFrom<Context> for ContextRow {
     type Error = NoRoom;
 
-    ghost try_from_gives = { λ context r. MatchResult r (λ x. (fits context ≡ true) × (x.held ≡ Some context)) (λ _. fits context ≡ false) };
+    ghost try_from_gives = { λ context r.
+        MatchResult r (λ x. (fits context ≡ true) × (x.held ≡ Some context)) (λ _. fits context ≡ false) };
 
     fn try_from(context: Context) -> Result<ContextRow, NoRoom> {
         if !context.is_in_bounds() {

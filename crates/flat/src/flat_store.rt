@@ -1,9 +1,11 @@
 // A store of contexts in rows that are lent to it, one row for each.
-ghost use Rattle.std.specs.Prelude.{◌≡◌, ◌≤◌, Ok, Err, if◌then◌else◌, true, false, [], length, MatchResult};
+ghost use Rattle.std.specs.Prelude.{◌≡◌, ◌≤◌, Ok, if◌then◌else◌, [], length, is_ok, IfOk, IfErr};
+ghost use Rattle.codes.specs.Refusals.{refusal_number, refuse, numbered};
 ghost use Rattle.codes.specs.declared.refusal.Refusal.TheVariants.{Opening};
 ghost use Rattle.std.specs.Iterator.{IsFinite, PicksByCmp};
 ghost use Rattle.std.specs.Ordering.{min_by_ordering, nat_cmp};
 ghost use Rattle.tables.specs.Tables.{Gets, Removes};
+ghost use Rattle.flat.specs.declared.flat_store.TheConstants.{MIN_ROWS};
 ghost use Rattle.flat.specs.Flat.{is_free, pair_of, held_in, room_in};
 ghost use Rattle.flat.specs.Held.{rows_fit};
 ghost use Rattle.flat.specs.Laws.{laws_of};
@@ -13,13 +15,21 @@ use codes::{HandedBack, Refusal, SessionId};
 use stores::{Context, NoRoom, PduSession, Store};
 use tables::{Table, all_free, find_target};
 
+/// The fewest rows of a flat store.
+pub const MIN_ROWS: usize = 16;
+
+/// The most rows of a flat store.
+pub const MAX_ROWS: usize = 256;
+
+/// A store of contexts in rows that are lent to it, one row for each.
 #[derive(Drop)]
 pub struct FlatStore<'a> {
     table: Table<'a, ContextRow>,
-    ghost enough: { 16 ≤ length table.rows.now },
+    ghost enough: { «MIN_ROWS» ≤ length table.rows.now },
 }
 
-// The lowest of some sessions. This, `remove_row` and `row` stand alone so that a wrong one is refused by its own contract.
+// The lowest of some sessions.
+// This, `remove_row` and `row` stand alone so that a wrong one is refused by its own contract.
 fn lowest<I: Iterator<Item = SessionId> + Drop>(sessions: I) -> Option<SessionId>
     requires can { I.can_next sessions }
     requires ends { IsFinite (I.remaining sessions) }
@@ -36,22 +46,28 @@ fn remove_row(table: &mut Table<'_, ContextRow>, session: PduSession) -> bool
 }
 
 impl<'a> FlatStore<'a> {
-    // Whether a store can have so many rows. One function over both bounds would be no shorter, as the test is one line.
+    /// Whether a store can have so many rows: from `MIN_ROWS` to `MAX_ROWS`.
+    /// Others are refused, as all that is opened out of bounds.
     pub fn check_rows(count: usize) -> Result<(), Refusal>
-        ensures { result ≡ (if rows_fit count then Ok tt else Err Opening) }
+        ensures { numbered result ≡ (if rows_fit count then Ok tt else refuse Opening) }
     {
-        if !(16..=256).contains(&count) {
+        if !(MIN_ROWS..=MAX_ROWS).contains(&count) {
             return Err(Refusal::Opening);
         }
         Ok(())
     }
 
-    // An empty store over 16 to 256 rows. Others are handed back as they were.
+    /// An empty store over rows, `MIN_ROWS` to `MAX_ROWS` of them, which are freed.
+    /// Others are refused, as all that is opened out of bounds, and handed back as they were.
     #[tactic(auto, using(crate::proofs::Tells::none_held))]
     pub fn new(
         rows: &'a mut [ContextRow],
     ) -> Result<FlatStore<'a>, HandedBack<&'a mut [ContextRow]>>
-        ensures { MatchResult result (λ s. (rows_fit (length rows.old) ≡ true) × (held_in s.table.rows.now ≡ []) × (length s.table.rows.now ≡ length rows.old)) (λ h. (rows_fit (length rows.old) ≡ false) × (h.refusal ≡ Opening) × (h.value ≡ rows.entry)) }
+        ensures fit { is_ok result ≡ rows_fit (length rows.old) }
+        ensures empty { IfOk result (λ s. held_in s.table.rows.now ≡ []) }
+        ensures size { IfOk result (λ s. length s.table.rows.now ≡ length rows.old) }
+        ensures refused { IfErr result (λ h. refusal_number h.refusal ≡ refusal_number Opening) }
+        ensures handed_back { IfErr result (λ h. h.value ≡ rows.entry) }
     {
         if let Err(refusal) = FlatStore::check_rows(rows.len()) {
             return Err(HandedBack {

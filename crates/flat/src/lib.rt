@@ -6,4 +6,4 @@ mod flat_store;
 mod row_key;
 
 pub use context_row::ContextRow;
-pub use flat_store::FlatStore;
+pub use flat_store::{FlatStore, MAX_ROWS, MIN_ROWS};

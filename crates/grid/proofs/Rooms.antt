@@ -12,7 +12,7 @@ use Rattle.grid.specs.Grids.{is_free, ue_of, contexts_in, serves, room_in}
 use Rattle.grid.specs.Rows.{tests, rows_long, all_free_none, none_all_free}
 
 any : UeRow
-any = record { ue = 0; places = [] }
+any = record { ue = 0; held = 0; places = []; counted = refl }
 
 room_tells : (xs : List UeRow) (u : ℕ) (r : Option ℕ) → FindsTarget is_free ue_of u xs r → (is_some (find (serves u) xs) || is_some (find is_free xs)) ≡ is_some r
 room_tells xs u None (a, f) =

@@ -1,5 +1,5 @@
 -- What the calls on the rows tell of the contexts in them.
-use Rattle.std.proofs.Common.{◌≡◌, ℕ, ◌+◌, ◌<◌, Bool, true, false, cond, not, ◌&&◌, eqb, ltb, List, length, get_or, set, replicate, is_some, Some, None, MatchBool, MatchOption, Option, Bor, sym, refl, ap, ◌∙◌, subst, inl, ⊎_elim, arith, length-set}
+use Rattle.std.proofs.Common.{◌≡◌, ℕ, ◌+◌, ◌<◌, Bool, true, false, cond, not, ◌&&◌, eqb, ltb, List, get_or, set, replicate, is_some, Some, None, MatchBool, MatchOption, Option, Bor, sym, refl, ap, ◌∙◌, subst, inl, ⊎_elim, arith, length-set}
 use lib.ListN.{length-replicate, get_or-replicate}
 use Rattle.std.specs.Option.{option_map}
 use Rattle.std.proofs.lemmas.List.{set-get_or}
@@ -11,7 +11,7 @@ use Rattle.stores.specs.Contexts.{in_bounds, pair_fits, fits, lookup, is_emergen
 use Rattle.stores.specs.Stores.{Stored, Removes}
 use Rattle.grid.specs.declared.place.Place.{Place}
 use Rattle.grid.specs.declared.ue_row.UeRow.{UeRow}
-use Rattle.grid.specs.Grids.{place_of, context_of, context_at, other_in, others_in, emergency_in, is_free, ue_of, written, contexts_in, room_in}
+use Rattle.grid.specs.Grids.{place_of, context_of, context_at, other_in, others_in, emergency_in, is_free, ue_of, Writes, contexts_in, room_in}
 use Rattle.std.specs.List.{find}
 use Rattle.stores.proofs.Counts.{count_same}
 use Rattle.stores.proofs.Lowests.{find_same}
@@ -58,12 +58,12 @@ module _ (xs : List UeRow) (u k : ℕ) (h : Apart is_free ue_of xs) where
 -- ---- a place is written
 
 module _ (xs : List UeRow) (i : ℕ) (d : UeRow) (before : Sound xs) where
-  sound : (u k : ℕ) (o : Option Place) → in_bounds (option_map (context_of u k) o) ≡ true → Target is_free ue_of u xs i → length (get_or xs i d).places ≡ 15 → 0 < k → k < 16 → Sound (set xs i (written (get_or xs i d) u k o))
-  sound u k o e t long a b = record {
-    size = length-set xs i (written (get_or xs i d) u k o) ∙ before.size;
-    apart = (apart_after xs u k o i d before.apart t long a b);
+  sound : (u k : ℕ) (o : Option Place) (y : UeRow) → Writes (get_or xs i d) y u k o → in_bounds (option_map (context_of u k) o) ≡ true → Target is_free ue_of u xs i → 0 < k → k < 16 → Sound (set xs i y)
+  sound u k o y w e t a b = record {
+    size = length-set xs i y ∙ before.size;
+    apart = apart_after xs u k o i d y w before.apart t a b;
     bounds = λ v j.
-        ap in_bounds (lookup_after xs u k o i d before.apart t long a b v j)
+        ap in_bounds (lookup_after xs u k o i d y w before.apart t a b v j)
         ∙ cond_both (eqb u v && eqb k j) (option_map (context_of u k) o) (lookup (contexts_in xs) v j) (λ r. in_bounds r ≡ true) (λ y. e) (λ n. before.bounds v j);
   }
 
@@ -73,14 +73,14 @@ module _ (xs : List UeRow) (i : ℕ) (d : UeRow) (before : Sound xs) where
     pub sound : Sound ys
     pub stored : Stored c (contexts_in xs) (contexts_in ys)
 
-  pub put_tells : (c : Context) (x : UeRow) → fits c ≡ true → Target is_free ue_of c.ue xs i → x ≡ written (get_or xs i d) c.ue c.session (Some (place_of c)) → length (get_or xs i d).places ≡ 15 → Put c (set xs i x)
-  put_tells c x f t e long = subst (λ (y : UeRow). Put c (set xs i y)) (sym e) (record {
-    sound = sound c.ue c.session (Some (place_of c)) f t long low high;
+  pub put_tells : (c : Context) (x : UeRow) → fits c ≡ true → Target is_free ue_of c.ue xs i → Writes (get_or xs i d) x c.ue c.session (Some (place_of c)) → Put c (set xs i x)
+  put_tells c x f t w = record {
+    sound = sound c.ue c.session (Some (place_of c)) x w f t low high;
     stored = record {
-      at = lookup_after xs c.ue c.session (Some (place_of c)) i d before.apart t long low high;
-      size = one_more (is_some (lookup (contexts_in xs) c.ue c.session)) _ _ (size_after xs c.ue c.session (Some (place_of c)) i d before.apart t long low high);
+      at = lookup_after xs c.ue c.session (Some (place_of c)) i d x w before.apart t low high;
+      size = one_more (is_some (lookup (contexts_in xs) c.ue c.session)) _ _ (size_after xs c.ue c.session (Some (place_of c)) i d x w before.apart t low high);
     };
-  })
+  }
     where
       range : (ltb 0 c.session && ltb c.session 16) ≡ true
       range = (and_parts (ltb 0 c.ue) _ (and_parts (pair_fits c.ue c.session) _ f).0).1
@@ -101,17 +101,17 @@ module _ (xs : List UeRow) (i : ℕ) (d : UeRow) (before : Sound xs) where
     pub sound : Sound ys
     pub removes : Removes u k (contexts_in xs) (contexts_in ys) (room_in xs) (room_in ys) r
 
-  gone : (u k : ℕ) → First is_free ue_of u xs i → true ≡ is_some (context_at (get_or xs i d) k) → length (get_or xs i d).places ≡ 15 → Gone u k (set xs i (written (get_or xs i d) (get_or xs i d).ue k None)) true
-  gone u k first stood long = record {
-    sound = sound w k None refl target long low high;
+  gone : (u k : ℕ) (x : UeRow) → First is_free ue_of u xs i → true ≡ is_some (context_at (get_or xs i d) k) → Writes (get_or xs i d) x (get_or xs i d).ue k None → Gone u k (set xs i x) true
+  gone u k x first stood wrote = record {
+    sound = sound w k None x wrote refl target low high;
     removes = record {
       stood = sym had;
       change = record {
         at = λ v j.
-            lookup_after xs w k None i d before.apart target long low high v j
+            lookup_after xs w k None i d x wrote before.apart target low high v j
             ∙ ap (λ (m : ℕ). cond (eqb m v && eqb k j) None (lookup (contexts_in xs) v j)) key;
         size =
-            let e = size_after xs w k None i d before.apart target long low high in
+            let e = size_after xs w k None i d x wrote before.apart target low high in
             let z = ap (λ (m : ℕ). cond {A = ℕ} (is_some (lookup (contexts_in xs) m k)) 1 0) key ∙ ap (λ (t : Bool). cond {A = ℕ} t 1 0) had in
             omega (arith, e, z);
       };
@@ -139,8 +139,8 @@ module _ (xs : List UeRow) (i : ℕ) (d : UeRow) (before : Sound xs) where
       high : k < 16
       high = ltb-true k 16 (and_parts (ltb 0 k) (ltb k 16) range).1
 
-  pub remove_tells : (u k : ℕ) (x : UeRow) (r : Bool) → First is_free ue_of u xs i → r ≡ is_some (context_at (get_or xs i d) k) → MatchBool r ((x ≡ written (get_or xs i d) (get_or xs i d).ue k None) × (length (get_or xs i d).places ≡ 15)) (x ≡ get_or xs i d) → Gone u k (set xs i x) r
-  remove_tells u k x true first stood (e, long) = subst (λ (y : UeRow). Gone u k (set xs i y) true) (sym e) (gone u k first stood long)
+  pub remove_tells : (u k : ℕ) (x : UeRow) (r : Bool) → First is_free ue_of u xs i → r ≡ is_some (context_at (get_or xs i d) k) → MatchBool r (Writes (get_or xs i d) x (get_or xs i d).ue k None) (x ≡ get_or xs i d) → Gone u k (set xs i x) r
+  remove_tells u k x true first stood w = gone u k x first stood w
   remove_tells u k x false first stood e =
       subst (λ (ys : List UeRow). Gone u k ys false) (sym (ap (set xs i) e ∙ set-get_or xs i d)) (record {
         sound = before;

@@ -1,13 +1,18 @@
 -- A place of a row is written.
-use Rattle.std.proofs.Common.{◌≡◌, ℕ, ◌+◌, ◌-◌, ◌<◌, Bool, true, false, cond, not, ◌&&◌, eqb, ltb, ◌⊎◌, List, length, get_or, set, is_some, Some, None, Option, sym, refl, ap, ◌∙◌, inl, inr, arith}
+use Rattle.std.proofs.Common.{◌≡◌, ℕ, ◌+◌, ◌-◌, ◌<◌, ◌≤◌, Bool, true, false, cond, not, ◌&&◌, eqb, ltb, ◌⊎◌, List, length, get_or, set, is_some, Some, None, Option, sym, refl, ap, ◌∙◌, inl, inr, arith}
+use mir.Val.{bool_byte}
 use Rattle.std.specs.Option.{option_map}
+use Rattle.std.proofs.lemmas.List.Sums.{count_by-le-length}
 use Rattle.std.proofs.lemmas.List.{get_or-set_same, get_or-set_other}
-use Rattle.std.proofs.lemmas.Bool.{cases_eq, cases_Bool, and_parts, and_from, eqb-true, eq-eqb, ne_eqb, lt-ltb, ltb-true, cond-true, cond-false, not_from_false}
+use Rattle.std.proofs.lemmas.Bool.{cases_eq, cases_Bool, and_parts, and_from, eqb-true, eq-eqb, ne_eqb, lt-ltb, ltb-true, cond-true, cond-false, not_from_false, true≢false}
 use Rattle.stores.specs.declared.context.Context.{Context}
+use Rattle.stores.specs.Contexts.{sessions}
 use Rattle.grid.specs.declared.place.Place.{Place}
 use Rattle.grid.specs.declared.ue_row.UeRow.{UeRow}
-use Rattle.grid.specs.Grids.{context_of, place_at, context_at, other_in, others_in, written}
-use Rattle.stores.proofs.Counts.{count_change}
+use Rattle.grid.specs.Places.{out_none}
+use Rattle.grid.specs.Held.{place_at, held_count}
+use Rattle.grid.specs.Grids.{context_of, context_at, other_in, others_in, Writes}
+use Rattle.stores.proofs.Counts.{count_change, count_same}
 
 some_mapped : {X Y : Type 0} (f : X → Y) (o : Option X) → is_some (option_map f o) ≡ is_some o
 some_mapped f None = refl
@@ -37,36 +42,92 @@ place_written ps k o j n a b = go (cases_eq k j)
             cond-false (ltb 0 j && ltb j 16) (get_or (set ps (k - 1) o) (j - 1) None) None f
             ∙ sym (cond-false (ltb 0 j && ltb j 16) (get_or ps (j - 1) None) None f)
 
-pub written_at : (x : UeRow) (u k : ℕ) (o : Option Place) (j : ℕ) → length x.places ≡ 15 → 0 < k → k < 16 → context_at (written x u k o) j ≡ cond (eqb k j) (option_map (context_of u k) o) (stands x u j)
-written_at x u k o j n a b = ap (option_map (context_of u j)) (place_written x.places k o j n a b) ∙ go (cases_Bool (eqb k j))
+-- ---- how many places are filled
+
+held_written : (ps : List (Option Place)) (k : ℕ) (o : Option Place) → length ps ≡ 15 → 0 < k → k < 16 → held_count (set ps (k - 1) o) + cond (is_some (place_at ps k)) 1 0 ≡ held_count ps + cond (is_some o) 1 0
+held_written ps k o n a b =
+    let e = count_change (λ j. is_some (place_at (set ps (k - 1) o) j)) (λ j. is_some (place_at ps j)) 1 15 k (omega (arith, a)) (omega (arith, b)) same in
+    rw here at e
   where
-    go : (eqb k j ≡ true) ⊎ (eqb k j ≡ false) → option_map (context_of u j) (cond (eqb k j) o (place_at x.places j)) ≡ cond (eqb k j) (option_map (context_of u k) o) (stands x u j)
-    go (inl e) = rw e (ap (λ (i : ℕ). option_map (context_of u i) o) (sym (eqb-true k j e)))
-    go (inr e) = rw e
+    same : (j : ℕ) → (j ≡ k → ⊥) → is_some (place_at (set ps (k - 1) o) j) ≡ is_some (place_at ps j)
+    same j h = ap (λ (p : Option Place). is_some p) (place_written ps k o j n a b ∙ cond-false (eqb k j) o (place_at ps j) (ne_eqb k j (λ z. h (sym z))))
 
-pub written_size : (x : UeRow) (u k : ℕ) (o : Option Place) → length x.places ≡ 15 → 0 < k → k < 16 → others_in (written x u k o) 0 + cond (is_some (stands x u k)) 1 0 ≡ others_in x 0 + cond (is_some o) 1 0
-written_size x u k o n a b =
-    let e = count_change (other_in (written x u k o) 0) (other_in x 0) 1 15 k (omega (arith, a)) (omega (arith, b)) same in
-    rw (old, new) at e
+    here : is_some (place_at (set ps (k - 1) o) k) ≡ is_some o
+    here = ap (λ (p : Option Place). is_some p) (place_written ps k o k n a b ∙ cond-true (eqb k k) o (place_at ps k) (eq-eqb k k refl))
+
+pub others_held : (x : UeRow) → others_in x 0 ≡ held_count x.places
+others_held x = count_same (other_in x 0) (λ j. is_some (place_at x.places j)) 1 15 same
   where
-    some_written : (j : ℕ) → is_some (context_at (written x u k o) j) ≡ is_some (cond (eqb k j) o (place_at x.places j))
-    some_written j = some_mapped (context_of u j) (place_at (set x.places (k - 1) o) j) ∙ ap (λ (p : Option Place). is_some p) (place_written x.places k o j n a b)
+    same : (j : ℕ) → 1 ≤ j → j < 16 → other_in x 0 j ≡ is_some (place_at x.places j)
+    same j a b =
+        ap (λ (t : Bool). t && is_some (context_at x j)) (not_from_false (eqb j 0) (ne_eqb j 0 (λ z. omega (arith, z, a))))
+        ∙ some_mapped (context_of x.ue j) (place_at x.places j)
 
-    not_zero : not (eqb k 0) ≡ true
-    not_zero = not_from_false (eqb k 0) (ne_eqb k 0 (λ z. omega (arith, z, a)))
+held_after : (x : UeRow) (k : ℕ) (o : Option Place) → length x.places ≡ 15 → 0 < k → k < 16 → held_count (set x.places (k - 1) o) + cond (is_some (context_at x k)) 1 0 ≡ x.held + cond (is_some o) 1 0
+held_after x k o n a b =
+    let e = held_written x.places k o n a b in
+    let f = x.counted in
+    let g = ap (λ (t : Bool). cond {A = ℕ} t 1 0) (some_mapped (context_of x.ue k) (place_at x.places k)) in
+    omega (arith, e, f, g)
 
-    same : (j : ℕ) → (j ≡ k → ⊥) → other_in (written x u k o) 0 j ≡ other_in x 0 j
-    same j h =
-        ap (λ (t : Bool). not (eqb j 0) && t)
-        (some_written j
-        ∙ ap (λ (p : Option Place). is_some p) (cond-false (eqb k j) o (place_at x.places j) (ne_eqb k j (λ z. h (sym z))))
-        ∙ sym (some_mapped (context_of x.ue j) (place_at x.places j)))
+pub held_most : (x : UeRow) → x.held ≤ 15
+held_most x =
+    let e = count_by-le-length (λ k. is_some (place_at x.places k)) sessions in
+    let f = x.counted in
+    omega (arith, e, f)
 
-    old : other_in x 0 k ≡ is_some (stands x u k)
-    old = ap (λ (t : Bool). t && is_some (context_at x k)) not_zero ∙ some_mapped (context_of x.ue k) (place_at x.places k) ∙ sym (some_mapped (context_of u k) (place_at x.places k))
+-- what a put adds to the number, and what stood there
+added : (t b : Bool) → t ≡ not b → bool_byte b + cond t 1 0 ≡ 1
+added true true e = absurd (true≢false e)
+added true false e = refl
+added false true e = refl
+added false false e = absurd (true≢false (sym e))
 
-    new : other_in (written x u k o) 0 k ≡ is_some o
-    new =
-        ap (λ (t : Bool). t && is_some (context_at (written x u k o) k)) not_zero
-        ∙ some_written k
-        ∙ ap (λ (p : Option Place). is_some p) (cond-true (eqb k k) o (place_at x.places k) (eq-eqb k k refl))
+pub added_most : (b : Bool) → bool_byte b ≤ 1
+added_most true = omega arith
+added_most false = omega arith
+
+-- one more is filled, unless the session had a context
+pub held_put : (x : UeRow) (k i : ℕ) (p : Place) (o : Option Context) (b : Bool) (r : ℕ) → i ≡ k → (ltb 0 k && ltb k 16) ≡ true → length x.places ≡ 15 → o ≡ context_at x k → is_some o ≡ not b → r ≡ bool_byte b → x.held + r ≡ held_count (set x.places (i - 1) (Some p))
+held_put x k i p o b r z h n c d e =
+    let a = and_parts (ltb 0 k) (ltb k 16) h in
+    let f : held_count (set x.places (k - 1) (Some p)) + cond (is_some (context_at x k)) 1 0 ≡ x.held + 1 = held_after x k (Some p) n (ltb-true 0 k a.0) (ltb-true k 16 a.1) in
+    let g = added (is_some (context_at x k)) b (ap (λ (q : Option Context). is_some q) (sym c) ∙ d) in
+    rw z (omega (arith, f, g, e))
+
+-- one less is filled
+pub held_removed : (x : UeRow) (k i : ℕ) (o : Option Context) → i ≡ k → length x.places ≡ 15 → o ≡ context_at x k → is_some o ≡ true → x.held - 1 ≡ held_count (set x.places (i - 1) None)
+held_removed x k i o z n c d = go (cases_Bool (ltb 0 k && ltb k 16))
+  where
+    had : is_some (context_at x k) ≡ true
+    had = ap (λ (q : Option Context). is_some q) (sym c) ∙ d
+
+    go : ((ltb 0 k && ltb k 16) ≡ true) ⊎ ((ltb 0 k && ltb k 16) ≡ false) → x.held - 1 ≡ held_count (set x.places (i - 1) None)
+    go (inl h) =
+        let a = and_parts (ltb 0 k) (ltb k 16) h in
+        let f : held_count (set x.places (k - 1) None) + cond (is_some (context_at x k)) 1 0 ≡ x.held + 0 = held_after x k None n (ltb-true 0 k a.0) (ltb-true k 16 a.1) in
+        let g = ap (λ (t : Bool). cond {A = ℕ} t 1 0) had in
+        rw z (omega (arith, f, g))
+    go (inr f) = absurd (true≢false (sym had ∙ ap (λ (q : Option Context). is_some q) (out_none x k f)))
+
+-- ---- a row that is written
+
+module _ (x y : UeRow) (u k : ℕ) (o : Option Place) (w : Writes x y u k o) (a : 0 < k) (b : k < 16) where
+  pub written_at : (j : ℕ) → context_at y j ≡ cond (eqb k j) (option_map (context_of u k) o) (stands x u j)
+  written_at j =
+      ap (λ (v : ℕ). option_map (context_of v j) (place_at y.places j)) w.ue
+      ∙ ap (λ (ps : List (Option Place)). option_map (context_of u j) (place_at ps j)) w.places
+      ∙ ap (option_map (context_of u j)) (place_written x.places k o j w.long a b)
+      ∙ go (cases_Bool (eqb k j))
+    where
+      go : (eqb k j ≡ true) ⊎ (eqb k j ≡ false) → option_map (context_of u j) (cond (eqb k j) o (place_at x.places j)) ≡ cond (eqb k j) (option_map (context_of u k) o) (stands x u j)
+      go (inl e) = rw e (ap (λ (i : ℕ). option_map (context_of u i) o) (sym (eqb-true k j e)))
+      go (inr e) = rw e
+
+  pub written_size : others_in y 0 + cond (is_some (stands x u k)) 1 0 ≡ others_in x 0 + cond (is_some o) 1 0
+  written_size =
+      let e = held_written x.places k o w.long a b in
+      let f = others_held x in
+      let g = others_held y ∙ ap held_count w.places in
+      let h = ap (λ (t : Bool). cond {A = ℕ} t 1 0) (some_mapped (context_of u k) (place_at x.places k)) in
+      omega (arith, e, f, g, h)

@@ -1,11 +1,12 @@
 -- The contexts in rows of one UE each.
-use Rattle.std.specs.Prelude.{ℕ, ◌-◌, Bool, cond, not, ◌&&◌, ◌||◌, List, is_some, None, Option, ◌==◌, nat_lt, slice_index_or, slice_set}
+use Rattle.std.specs.Prelude.{◌≡◌, ℕ, ◌-◌, Bool, not, ◌&&◌, ◌||◌, List, length, is_some, Option, ◌==◌, slice_set}
 use Rattle.std.specs.List.{find, count_by, filter_map, flat_map}
 use Rattle.std.specs.Option.{option_map}
 use Rattle.stores.specs.declared.context.Context.{Context}
 use Rattle.stores.specs.Contexts.{pair_fits, sessions, is_emergency}
 use Rattle.grid.specs.declared.place.Place.{Place}
 use Rattle.grid.specs.declared.ue_row.UeRow.{UeRow}
+use Rattle.grid.specs.Held.{place_at}
 
 abbrev pub place_of : Context → Place
 place_of c = record { smf = c.smf; emergency = c.emergency; slice = c.slice; dnn = c.dnn }
@@ -13,10 +14,6 @@ place_of c = record { smf = c.smf; emergency = c.emergency; slice = c.slice; dnn
 -- the context of session k of UE u that the place keeps
 abbrev pub context_of : ℕ → ℕ → Place → Context
 context_of u k p = record { ue = u; session = k; smf = p.smf; emergency = p.emergency; slice = p.slice; dnn = p.dnn }
-
--- what stands at session k
-abbrev pub place_at : List (Option Place) → ℕ → Option Place
-place_at ps k = cond (nat_lt 0 k && nat_lt k 16) (slice_index_or ps (k - 1) None) None
 
 -- the context of session k in the row
 abbrev pub context_at : UeRow → ℕ → Option Context
@@ -40,9 +37,11 @@ is_free x = others_in x 0 == 0
 abbrev pub ue_of : UeRow → ℕ
 ue_of x = x.ue
 
--- the row as UE u's, with this at session k
-abbrev pub written : UeRow → ℕ → ℕ → Option Place → UeRow
-written x u k o = record { ue = u; places = slice_set x.places (k - 1) o }
+-- y is the row x as UE u's, with this at session k
+pub record Writes (x y : UeRow) (u k : ℕ) (o : Option Place) : Type 0 where
+  pub long : length x.places ≡ 15
+  pub ue : y.ue ≡ u
+  pub places : y.places ≡ slice_set x.places (k - 1) o
 
 -- the contexts in the row, by session
 abbrev pub contexts_of : UeRow → List Context

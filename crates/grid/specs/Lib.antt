@@ -1,3 +1,4 @@
+pub mod Held
 pub mod Grids
 pub mod Places
 pub mod Rows

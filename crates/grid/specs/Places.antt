@@ -8,7 +8,8 @@ use Rattle.stores.specs.Contexts.{lookup, Once}
 use Rattle.stores.proofs.Counts.{count_cons, count_none}
 use Rattle.grid.specs.declared.place.Place.{Place}
 use Rattle.grid.specs.declared.ue_row.UeRow.{UeRow}
-use Rattle.grid.specs.Grids.{context_of, place_at, context_at, other_in, others_in, is_free, contexts_of}
+use Rattle.grid.specs.Held.{place_at}
+use Rattle.grid.specs.Grids.{context_of, context_at, other_in, others_in, is_free, contexts_of}
 
 none_is : {X : Type 0} (o : Option X) → is_some o ≡ false → o ≡ None
 none_is None e = refl

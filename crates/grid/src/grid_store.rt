@@ -4,29 +4,35 @@ ghost use Rattle.tables.specs.Rows.{Apart, Finds};
 ghost use Rattle.tables.specs.Tables.{Gets};
 ghost use Rattle.stores.specs.Contexts.{in_bounds, lookup};
 ghost use Rattle.grid.specs.Grids.{is_free, ue_of, contexts_in, room_in};
+ghost use Rattle.grid.specs.declared.grid_store.TheConstants.{ROWS};
 ghost use Rattle.grid.specs.Laws.{laws_of};
 
 use crate::ue_row::UeRow;
 use codes::{SessionId, UeNumber};
 use stores::{Context, NoRoom, PduSession, Store};
-use tables::{all_free, find_row, find_target};
+use tables::{all_free, find_row, find_target, get_row};
 
-// No UE has two rows in use, and no context is out of bounds. The rows are an array, since a store takes no memory from a heap.
+const ROWS: usize = 32;
+
+/// A store of 32 rows of its own: each is one UE's while that has a context in it, and has a place
+/// for each of 15 sessions.
+// No UE has two rows in use, and no context is out of bounds.
+// The rows are an array, since a store takes no memory from a heap.
 #[derive(Drop)]
 pub struct GridStore {
-    rows: [UeRow; 32],
-    ghost size: { length rows ≡ 32 },
+    rows: [UeRow; ROWS],
+    ghost size: { length rows ≡ «ROWS» },
     ghost apart: { Apart is_free ue_of rows },
     ghost bounds: { (u k : ℕ) → in_bounds (lookup (contexts_in rows) u k) ≡ true },
 }
 
 impl GridStore {
-    // An empty store.
+    /// An empty store.
     pub fn new() -> GridStore
         ensures { contexts_in result.rows ≡ [] }
     {
         GridStore {
-            rows: [UeRow::new(); 32],
+            rows: [UeRow::new(); ROWS],
         }
     }
 
@@ -41,18 +47,19 @@ impl GridStore {
     fn row_of(&self, ue: UeNumber) -> Option<&UeRow>
         ensures { Gets is_free ue_of ue self.now.rows result }
     {
-        self.index_of(ue).map(|i| &self.rows[i])
+        get_row(&self.rows, &ue)
     }
 }
 
 impl Store for GridStore {
     ghost contexts = { λ s. contexts_in s.rows };
 
-    ghost floor = { λ s. 32 };
+    ghost floor = { λ s. «ROWS» };
 
     ghost room = { λ s u k. room_in s.rows u k };
 
-    ghost laws = { λ s. laws_of s.rows (record { size = s.size; apart = s.apart; bounds = s.bounds }) };
+    ghost laws = { λ s. laws_of s.rows
+        (record { size = s.size; apart = s.apart; bounds = s.bounds }) };
 
     fn floor(&self) -> usize {
         self.rows.len()
@@ -85,7 +92,8 @@ impl Store for GridStore {
             return Err(NoRoom);
         }
         let i = find_target(&self.rows, &context.ue).ok_or(NoRoom)?;
-        self.rows[i].put(context);
+        let rows = &mut self.rows[..];
+        rows[i].put(context);
         Ok(())
     }
 
@@ -93,6 +101,7 @@ impl Store for GridStore {
         let Some(i) = self.index_of(session.ue) else {
             return false;
         };
-        self.rows[i].remove(session.id)
+        let rows = &mut self.rows[..];
+        rows[i].remove(session.id)
     }
 }

@@ -1,29 +1,37 @@
 // The contexts of one UE: a place for each session.
-ghost use Rattle.std.specs.Prelude.{◌≡◌, ◌<◌, true, length, is_some, Some, None, MatchBool};
+ghost use Rattle.std.specs.Prelude.{◌≡◌, true, is_some, Some, None, MatchBool};
 ghost use Rattle.std.specs.List.{find};
 ghost use Rattle.std.proofs.Common.{rules};
 ghost use Rattle.stores.specs.Contexts.{pair_fits, sessions};
-ghost use Rattle.grid.specs.Grids.{place_of, context_at, other_in, others_in, emergency_in, is_free, ue_of, written};
+ghost use Rattle.grid.specs.Held.{held_count};
 
 use crate::place::Place;
 use codes::{SessionId, UeNumber, is_session};
 use stores::Context;
 use tables::Row;
 
+const PLACES: usize = 15;
+
 // The places are an array, since a store takes no memory from a heap.
 #[derive(Clone, Copy)]
 pub struct UeRow {
     ue: UeNumber,
-    places: [Option<Place>; 15],
+    // how many places are filled, so that a free row is told by one number
+    held: u8,
+    places: [Option<Place>; PLACES],
+    ghost counted: { held ≡ held_count places },
 }
 
 impl UeRow {
+    ghost use Rattle.grid.specs.Grids.{place_of, context_at, other_in, others_in, emergency_in, is_free, Writes};
+
     pub(crate) fn new() -> UeRow
         ensures { is_free result ≡ true }
     {
         UeRow {
             ue: 0,
-            places: [None; 15],
+            held: 0,
+            places: [None; PLACES],
         }
     }
 
@@ -64,41 +72,35 @@ impl UeRow {
         (1..16).find(|&other| self.has_other_emergency(session, other))
     }
 
-    // Makes it the UE's row, with this at the session. The size is a clause, since as a ghost field `written` would have to prove it.
-    fn write(&mut self, ue: UeNumber, session: SessionId, place: Option<Place>)
-        requires session_nonzero { 0 < session }
-        requires session_bound { session < 16 }
-        ensures after { self.new ≡ written self.old ue session place }
-        ensures size { length self.old.places ≡ 15 }
-    {
-        self.ue = ue;
-        self.places[usize::from(session) - 1] = place;
-    }
-
     // Replaces the context of its session or adds it.
     pub(crate) fn put(&mut self, context: Context)
         requires { pair_fits context.ue context.session ≡ true }
-        ensures after { self.new ≡ written self.old context.ue context.session (Some (place_of context)) }
-        ensures size { length self.old.places ≡ 15 }
+        ensures { Writes self.old self.new context.ue context.session (Some (place_of context)) }
     {
-        self.write(context.ue, context.session, Some(Place::from(context)));
+        self.held += u8::from(self.context(context.session).is_none());
+        self.ue = context.ue;
+        self.places[usize::from(context.session) - 1] = Some(Place::from(context));
     }
 
     // Leaves no context of the session. True where there was one.
     pub(crate) fn remove(&mut self, session: SessionId) -> bool
         ensures stood { result ≡ is_some (context_at self.old session) }
-        ensures change { MatchBool result ((self.new ≡ written self.old self.old.ue session None) × (length self.old.places ≡ 15)) (self.new ≡ self.old) }
+        ensures change { MatchBool result (Writes self.old self.new self.old.ue session None)
+            (self.new ≡ self.old) }
     {
         if self.context(session).is_none() {
             return false;
         }
-        self.write(self.ue, session, None);
+        self.held -= 1;
+        self.places[usize::from(session) - 1] = None;
         true
     }
 }
 
 // A row serves any UE while no session of it has a context.
 impl Row for UeRow {
+    ghost use Rattle.grid.specs.Grids.{is_free, ue_of};
+
     type Key = UeNumber;
 
     ghost free = { λ x. is_free x };
@@ -107,9 +109,9 @@ impl Row for UeRow {
 
     ghost exact = { Prim.search rules };
 
+    #[tactic(auto, using(crate::proofs::Written::others_held))]
     fn is_free(&self) -> bool {
-        // no session is 0, so that this counts them all
-        self.count_others(0) == 0
+        self.held == 0
     }
 
     fn key(&self) -> UeNumber {

@@ -1,3 +1,4 @@
 pub mod Counts
 pub mod Lowests
 pub mod Questions
+mod Finding

@@ -1,2 +1,3 @@
 pub mod Contexts
 pub mod Stores
+pub mod Finding

@@ -5,7 +5,8 @@ ghost use Rattle.stores.specs.Contexts.{fits};
 use crate::pdu_session::PduSession;
 use codes::{DnnNumber, SessionId, SliceCode, SmfId, UeNumber};
 
-// Plain fields, as each is read by itself: a nested `PduSession` or `SliceDnn` would only lengthen that.
+/// Which SMF has a PDU session, and for which slice and DNN; the numbers may be out of bounds.
+// Plain fields, as each is read by itself: nesting would only lengthen that.
 #[derive(Clone, Copy)]
 pub struct Context {
     pub ue: UeNumber,
@@ -17,7 +18,7 @@ pub struct Context {
 }
 
 impl Context {
-    // Whose context it is.
+    /// Whose context it is.
     pub fn pdu_session(&self) -> PduSession
         ensures ue { result.ue ≡ self.now.ue }
         ensures id { result.id ≡ self.now.session }
@@ -28,7 +29,8 @@ impl Context {
         }
     }
 
-    // Whether a store can have it.
+    /// Whether a store can have it: its session is in bounds, its SMF ID is from 1 on,
+    /// and its DNN number is 64 at most.
     pub fn is_in_bounds(&self) -> bool
         ensures { result ≡ fits self.now }
     {

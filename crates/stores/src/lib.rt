@@ -8,7 +8,6 @@ mod pdu_session;
 mod store;
 
 pub use context::Context;
-pub use laws::{has_room_below_floor, put_and_find, remove_and_find};
 pub use no_room::NoRoom;
 pub use pdu_session::PduSession;
 pub use store::Store;

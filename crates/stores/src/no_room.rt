@@ -4,6 +4,7 @@ ghost use Rattle.codes.specs.declared.refusal.Refusal.TheVariants as refusal;
 
 use codes::Refusal;
 
+/// There is no room for the context.
 #[derive(Clone, Copy, Debug, PartialEq, Eq)]
 pub struct NoRoom;
 

@@ -5,6 +5,6 @@ mod finding;
 mod row;
 mod table;
 
-pub use finding::{all_free, find_free, find_row, find_target};
+pub use finding::{all_free, find_free, find_row, find_target, get_row};
 pub use row::Row;
 pub use table::{Table, TableFull};

@@ -1,6 +1,7 @@
 // What a row of a table tells: its key, and whether it is free.
 ghost use Rattle.std.specs.Prelude.{◌≡◌, Bool, true};
 
+/// A row of a table: free, or in use under its key.
 pub trait Row {
     type Key: Eq + Drop;
 
@@ -8,14 +9,16 @@ pub trait Row {
 
     ghost named: { Self → Self.Key };
 
+    /// Whether the row is free.
     fn is_free(&self) -> bool
         ensures { result ≡ free self.now };
 
-    // The key that the row is in use under.
+    /// The key that the row is in use under; of a free row it means nothing.
     // No Option for a free row, since `Table::set` promises to write that, too, to the place of its key.
     fn key(&self) -> Self::Key
         ensures { result ≡ named self.now };
 
+    /// Frees the row.
     fn clear(&mut self)
         ensures { free self.new ≡ true };
 

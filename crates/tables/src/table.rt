@@ -3,9 +3,10 @@ ghost use Rattle.std.specs.Prelude.{◌≡◌, length};
 ghost use Rattle.tables.specs.Rows.{AllFree, Apart};
 ghost use Rattle.tables.specs.Tables.{Gets, Sets, Removes};
 
-use crate::finding::{find_row, find_target};
+use crate::finding::{find_row, find_target, get_row};
 use crate::row::Row;
 
+/// A table over rows that are lent to it. No two in use have the same key.
 #[derive(Drop)]
 pub struct Table<'a, R: Row> {
     rows: &'a mut [R],
@@ -18,7 +19,7 @@ pub struct Table<'a, R: Row> {
 pub struct TableFull;
 
 impl<'a, R: Row> Table<'a, R> {
-    // A table over these rows, all of which are freed.
+    /// A table over these rows, all of which are freed.
     pub fn new(rows: &'a mut [R]) -> Table<'a, R>
         ensures free { AllFree R.Row.free result.rows.now }
         ensures size { length result.rows.now ≡ length rows.old }
@@ -29,20 +30,22 @@ impl<'a, R: Row> Table<'a, R> {
         Table { rows }
     }
 
+    /// All the rows, free and in use.
     pub fn rows(&self) -> &[R]
         ensures { result.now ≡ self.now.rows.now }
     {
         &self.rows[..]
     }
 
-    // The row that is in use under the key.
+    /// The row that is in use under the key. None where there is none.
     pub fn find(&self, key: &R::Key) -> Option<&R>
         ensures { Gets R.Row.free R.Row.named key.now self.now.rows.now result }
     {
-        find_row(self.rows, key).map(|i| &self.rows[i])
+        get_row(self.rows, key)
     }
 
-    // Replaces the row that is in use under the new row's key, or takes a free one.
+    /// Replaces the row that is in use under the new row's key, or takes the first free one.
+    /// `TableFull` where there is neither; then nothing changes.
     pub fn set(&mut self, row: R) -> Result<(), TableFull>
     where
         R: Drop,
@@ -54,7 +57,8 @@ impl<'a, R: Row> Table<'a, R> {
         Ok(())
     }
 
-    // Frees the row that is in use under the key. False where there is none: a bool, as the library's sets answer.
+    /// Frees the row that is in use under the key.
+    /// False where there is none, and nothing changes: a bool, as the library's sets answer.
     pub fn remove(&mut self, key: &R::Key) -> bool
         ensures { Removes R.Row.free R.Row.named key.now self.old.rows.now self.new.rows.now result }
     {

@@ -85,12 +85,13 @@ fn any_store<S: Store>(rt: &impl Abort, store: &mut S) {
         Step::Find(5, 11, false),
         Step::Find(5, 12, true),
         Step::Empty(false),
+        Step::Room(6, 1, true),
+        Step::Put(6, 1, true),
+        Step::Find(6, 1, true),
+        Step::Remove(6, 1, true),
+        Step::Find(6, 1, false),
     ];
     replay(rt, store, &steps);
-    let session = PduSession { ue: 6, id: 1 };
-    assert!(rt; has_room_below_floor(store, session));
-    assert!(rt; put_and_find(store, context(6, 1, 7, 1)).is_some());
-    assert!(rt; remove_and_find(store, session).is_none());
 }
 
 fn row_count_refusal(rows: &mut [ContextRow]) -> u8 {

@@ -1,4 +1,4 @@
-use Rattle.std.proofs.Common.{[], is_some, Option, sym, refl, ap}
+use Rattle.std.proofs.Common.{is_some, Option, sym, refl, ap}
 use Rattle.stores.specs.declared.context.Context.{Context}
 use Rattle.grid.specs.Rows.{absent_at}
 use Rattle.grid.proofs.Stores.{sound_of}
@@ -17,11 +17,11 @@ returns-in_default c =
 pub invariant_of-self : goal.invariant_of-self
 invariant_of-self c =
     let s = c.args.self.now in
-    let t = remove_tells s.rows c.in-Some.i (record { ue = 0; places = [] }) (sound_of s) c.args.session.ue c.args.session.id c.remove.new.self c.remove.result c.in-Some.ensures c.remove.ensures.stood c.remove.ensures.change in
+    let t = remove_tells s.rows c.in-Some.i c.index-rows-i.result (sound_of s) c.args.session.ue c.args.session.id c.remove.new.self c.remove.result c.in-Some.ensures c.remove.ensures.stood c.remove.ensures.change in
     record { size = t.sound.size; apart = t.sound.apart; bounds = t.sound.bounds }
 
 pub returns-clause-removes : goal.returns-clause-removes
 returns-clause-removes c =
     let s = c.args.self.now in
-    let t = remove_tells s.rows c.in-Some.i (record { ue = 0; places = [] }) (sound_of s) c.args.session.ue c.args.session.id c.remove.new.self c.remove.result c.in-Some.ensures c.remove.ensures.stood c.remove.ensures.change in
+    let t = remove_tells s.rows c.in-Some.i c.index-rows-i.result (sound_of s) c.args.session.ue c.args.session.id c.remove.new.self c.remove.result c.in-Some.ensures c.remove.ensures.stood c.remove.ensures.change in
     t.removes
