@@ -86,6 +86,7 @@ impl<'a> ControlTable<'a> {
 
     /// Takes the line of this key out. A kind that is not 1 to 3 is refused, and a key with no line, by the same refusal;
     /// the table is then as it was.
+    #[tactic(auto, using(crate::proofs::Keyed::clear_done, crate::proofs::Keyed::clear_refused))]
     pub fn clear(&mut self, numbers: ControlNumbers) -> Result<(), Refusal>
         ensures { Clearing (key_for numbers) self.old self.new result }
     {
