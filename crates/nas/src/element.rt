@@ -17,7 +17,8 @@ pub const S_NSSAI: u8 = 0x22;
 /// The DNN (TS 24.501 clause 9.11.2.1B).
 pub const DNN: u8 = 0x25;
 
-/// The identity of the session that is to be replaced (PDU session identity 2, TS 24.501 clause 9.11.3.41).
+/// The identity of the session that is to be replaced (PDU session identity 2, TS 24.501 clause
+/// 9.11.3.41).
 pub const OLD_SESSION_ID: u8 = 0x59;
 
 // How many octets the length and the contents of an element take.
@@ -74,8 +75,9 @@ pub struct Reader<'a> {
 }
 
 impl<'a> Reader<'a> {
-    /// The next element, which is then passed over, or none at the end. One that cannot be is refused by its first
-    /// octet, one that runs past the message's end as an overrun; the reader is then where it was.
+    /// The next element, which is then passed over, or none at the end. One that cannot be is
+    /// refused by its first octet, one that runs past the message's end as an overrun; the reader
+    /// is then where it was.
     #[tactic(auto, using(crate::proofs::Passing::passed))]
     pub fn next_element(&mut self) -> Result<Option<Element<'a>>, Refusal>
         ensures { MatchResult result

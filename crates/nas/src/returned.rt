@@ -32,8 +32,8 @@ impl<'a> Output<'a> {
         self.end = end;
     }
 
-    // The element that says how long to back off, where the cause has an octet for it. It stands alone, since
-    // behind an `if let` in `write_return` the check loses sight of the octets.
+    // The element that says how long to back off, where the cause has an octet for it. It stands
+    // alone, since behind an `if let` in `write_return` the check loses sight of the octets.
     fn put_back_off(&mut self, octet: Option<u8>)
         requires { self.old.end + length (back_off_element octet) ≤ length self.old.octets.now }
         ensures end { self.new.end ≡ self.old.end + length (back_off_element octet) }
@@ -47,9 +47,10 @@ impl<'a> Output<'a> {
     }
 }
 
-/// Writes the DL NAS TRANSPORT message (TS 24.501 clause 8.2.11) that returns a payload to the front of `output`, and
-/// answers its length in octets; the other octets stay. A payload that is not 1 to 2,048 octets long is refused, so is
-/// a session that is not 1 to 15, and an output shorter than the payload and 13 octets; `output` is then as it was.
+/// Writes the DL NAS TRANSPORT message (TS 24.501 clause 8.2.11) that returns a payload to the
+/// front of `output`, and answers its length in octets; the other octets stay. A payload that is
+/// not 1 to 2,048 octets long is refused, so is a session that is not 1 to 15, and an output
+/// shorter than the payload and 13 octets; `output` is then as it was.
 pub fn write_return(
     output: &mut [u8],
     payload: &[u8],

@@ -15,7 +15,8 @@ pub const MAX_PAYLOAD: usize = 2048;
 // How many octets stand in front of the payload.
 const HEADER_LENGTH: usize = 6;
 
-/// An UL NAS TRANSPORT message as it was read (TS 24.501 clause 8.2.10). The payload and the DNN are parts of its octets.
+/// An UL NAS TRANSPORT message as it was read (TS 24.501 clause 8.2.10). The payload and the DNN
+/// are parts of its octets.
 #[derive(Clone, Copy, Debug)]
 pub struct Uplink<'a> {
     /// 1 to 2,048 octets of N1 SM information.
@@ -118,7 +119,7 @@ impl<'a> Parts<'a> {
     }
 
     // What the elements in `rest` say.
-    #[tactic(auto, using(crate::proofs::Passing::walk_stop, crate::proofs::Passing::walk_refuse, crate::proofs::Passing::walk_step), unfolding(crate::specs::Uplinks::walk))]
+    #[tactic(auto, using(crate::proofs::Passing::walk_laws), unfolding(crate::specs::Uplinks::walk))]
     fn read(rest: &'a [u8]) -> Result<Parts<'a>, Refusal>
         ensures { seen parts result ≡ walk 0 nothing rest.now }
     {
@@ -156,10 +157,10 @@ impl<'a> Parts<'a> {
     }
 }
 
-/// Reads a whole UL NAS TRANSPORT message (TS 24.501 clause 8.2.10), of whose elements the first of each kind counts.
-/// `Reads` defines the answer, with the laws that stand above it: a message is refused that is cut short, has another
-/// header, a payload that is not 1 to 2,048 octets long, an element that cannot be, or a session or a request type that
-/// is out of bounds.
+/// Reads a whole UL NAS TRANSPORT message (TS 24.501 clause 8.2.10), of whose elements the first of
+/// each kind counts. `Reads` defines the answer, with the laws that stand above it: a message is
+/// refused that is cut short, has another header, a payload that is not 1 to 2,048 octets long, an
+/// element that cannot be, or a session or a request type that is out of bounds.
 #[tactic(auto, using(crate::proofs::Laws::lawful, crate::proofs::Passing::elements_split))]
 pub fn read_uplink(octets: &[u8]) -> Result<Uplink<'_>, Refusal>
     ensures { Reads octets.now (answer result) }
