@@ -2,8 +2,8 @@
 ghost use Rattle.std.specs.Prelude.{◌≡◌};
 ghost use Rattle.codes.specs.Causes.{cause_number, back_off_octet};
 
-/// A 5GMM cause (TS 24.501 clause 9.11.3.2). The congestion causes carry the octet that says how long to back off, as
-/// the element writes it (GPRS timer 3, clause 9.11.2.5 of the same).
+/// A 5GMM cause (TS 24.501 clause 9.11.3.2). The congestion causes carry the octet that says how
+/// long to back off, as its element has it (GPRS timer 3, clause 9.11.2.5).
 #[derive(Clone, Copy, Debug, PartialEq, Eq)]
 pub enum Cause {
     /// Congestion control for the DNN.

@@ -1,4 +1,5 @@
-// The numbers and codes that all crates share: refusals, causes, request types, and the numbers of things.
+// The numbers and codes that all crates share: refusals, causes, request types, and the numbers of
+// things.
 #![tactic(auto)]
 
 mod cause;

@@ -2,7 +2,8 @@
 ghost use Rattle.std.specs.Prelude.{◌≡◌};
 ghost use Rattle.codes.specs.Refusals.{refusal_number};
 
-/// Why a call was not carried out, by a number that never changes. A lack of memory is none of these.
+/// Why a call was not carried out, by a number that never changes. A lack of memory is none of
+/// these.
 #[derive(Clone, Copy, Debug, PartialEq, Eq)]
 pub enum Refusal {
     /// The UE record, or one of its lines, is out of bounds.

@@ -16,7 +16,7 @@ use Rattle.control.specs.declared.control_row.ControlRow.{ControlRow}
 use Rattle.control.specs.Keys.{same_key}
 use Rattle.control.specs.Octets.{Holds, octet_of}
 use Rattle.control.specs.Lines.{is_free, key_of, row_has, octet_in, back_off_of, line_count}
-use Rattle.control.specs.Controls.{Set, Full, Cleared}
+use Rattle.control.specs.Controls.{Set, Full, Cleared, Clearing}
 
 -- ---- keys
 
@@ -118,3 +118,15 @@ module _ (k : ControlKey) (xs ys : List ControlRow) (h : Apart is_free key_of xs
         size = frees_size is_free key_of k xs ys i x t;
         rows = ap (λ (l : List ControlRow). length l) t.after ∙ length-set xs i x;
       }
+
+-- what clearing answers, by what the table says of the key's row
+module _ (o : Option ControlKey) (k : ControlKey) (named : Ok k ≡ ok_or o (refusal_number ControlKind)) (before xs ys : List ControlRow) (is : xs ≡ before) where
+  told : (r : Result (Unit {0}) Refusal) → Clearing (Some k) xs ys r → Clearing o before ys r
+  told r c = subst (λ b. Clearing o b ys r) is (subst (λ p. Clearing p xs ys r) (sym (key_known o k named)) c)
+
+  pub clear_done : Apart is_free key_of xs → (i : ℕ) × ((x : ControlRow) × Frees is_free key_of k xs ys i x) → Clearing o before ys (Ok tt)
+  clear_done h f = told (Ok tt) (cleared k xs ys h f.0 f.1.0 f.1.1)
+
+  pub clear_refused : (ys ≡ xs) × Absent is_free key_of k xs → Clearing o before ys (Err ControlKind)
+  clear_refused f =
+      told (Err ControlKind) (record { refusal = refl; same = f.0; none = none_back_off xs k f.1 })

@@ -43,7 +43,8 @@ impl<'a> ControlTable<'a> {
         Ok(())
     }
 
-    /// A table with no lines, over 1 to 64 rows. Others are refused as out of bounds, and handed back as they were.
+    /// A table with no lines, over 1 to 64 rows. Others are refused as out of bounds, and handed
+    /// back as they were.
     #[tactic(auto, using(crate::proofs::Keyed::free_back_off, crate::proofs::Keyed::free_count))]
     pub fn new(
         rows: &'a mut [ControlRow],
@@ -73,8 +74,8 @@ impl<'a> ControlTable<'a> {
         self.table.find(&key).and_then(|row| row.back_off())
     }
 
-    /// A line of this key: in the place of the one that there is, or one more. A kind that is not 1 to 3 is refused, and
-    /// a new key where every row has a line; the table is then as it was.
+    /// A line of this key: in the place of the one that there is, or one more. A kind that is not 1
+    /// to 3 is refused, and a new key where every row has a line; the table is then as it was.
     pub fn set(&mut self, numbers: ControlNumbers, back_off: u8) -> Result<(), Refusal>
         ensures { Setting (key_for numbers) back_off self.old self.new result }
     {
@@ -84,8 +85,9 @@ impl<'a> ControlTable<'a> {
             .map_err(|_| Refusal::ControlFull)
     }
 
-    /// Takes the line of this key out. A kind that is not 1 to 3 is refused, and a key with no line, by the same refusal;
-    /// the table is then as it was.
+    /// Takes the line of this key out. A kind that is not 1 to 3 is refused, and a key with no line
+    /// by the same refusal; the table is then as it was.
+    #[tactic(auto, using(crate::proofs::Keyed::clear_done, crate::proofs::Keyed::clear_refused))]
     pub fn clear(&mut self, numbers: ControlNumbers) -> Result<(), Refusal>
         ensures { Clearing (key_for numbers) self.old self.new result }
     {

@@ -1,4 +1,5 @@
-// Control lines: congestion of a DNN, of a slice with a DNN, or of a slice, each with its back-off octet.
+// Control lines: congestion of a DNN, of a slice with a DNN, or of a slice, each with its back-off
+// octet.
 #![tactic(auto)]
 
 mod control_key;

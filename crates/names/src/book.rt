@@ -12,8 +12,8 @@ use std::marker::Model;
 /// How many names a book has at most.
 pub const MAX_NAMES: usize = 64;
 
-/// The DNN names that a core knows, numbered from 1 in their order: 1 to 64 names of 1 to 100 octets each, of which no
-/// two are the same. Their form is that of TS 23.003 clause 9.1, which is not judged.
+/// The DNN names that a core knows, numbered from 1 in their order: 1 to 64 names of 1 to 100
+/// octets each, of which no two are the same. Their form (TS 23.003 clause 9.1) is not judged.
 #[derive(Drop)]
 pub struct Book {
     names: Vec<Name>,
@@ -75,8 +75,8 @@ fn copy_names<N: AsSlice<u8>>(heap: Global, names: &[N]) -> Result<Vec<Name>, Al
 }
 
 impl Book {
-    /// A book of these names, which it copies. Names that no book can have are refused as out of bounds, before any
-    /// memory is asked for; else only a lack of memory is an error.
+    /// A book of these names, which it copies. Names that no book can have are refused as out of
+    /// bounds, before any memory is asked for; else only a lack of memory is an error.
     pub fn new(heap: Global, names: &[&[u8]]) -> Result<Book, SetupError>
         ensures made { IfOk result (Made (lent_names names.now)) }
         ensures unmade { IfErr result (Unmade (lent_names names.now)) }
@@ -88,7 +88,8 @@ impl Book {
         Ok(Book { names })
     }
 
-    /// The number of the name that is the same, or 0, which stands for a name that is not in the book.
+    /// The number of the name that is the same, or 0, which stands for a name that is not in the
+    /// book.
     pub fn number_of(&self, octets: &[u8]) -> DnnNumber
         ensures { Numbers self.now octets.now result }
     {

@@ -14,8 +14,8 @@ fn same_octet(a: u8, b: u8) -> bool
     a == b
 }
 
-/// Whether two DNN names are the same, which they are octet by octet. Whatever compares names goes by this and by no
-/// `==`, so that the rule for octets stands in one place.
+/// Whether two DNN names are the same, which they are octet by octet. Whatever compares names goes
+/// by this and by no `==`, so that the rule for octets stands in one place.
 pub fn same_name(a: &[u8], b: &[u8]) -> bool
     ensures { Same a.now b.now result }
 {

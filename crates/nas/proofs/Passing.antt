@@ -69,6 +69,9 @@ module _ (p : Parts) (e : Element) (ys : List ℕ) where
       ∙ walk_skip h.size q (drop 1 xs) h.fits
       ∙ ap (walk 0 q) (sym h.behind)
 
+-- what the walk makes of one step of the reader
+pub ruleset walk_laws = (walk_stop, walk_refuse, walk_step)
+
 -- ---- the whole message, once its header is known
 
 pub read_refused : (xs : List ℕ) (n : ℕ) → header xs ≡ Err n → read xs ≡ Err n

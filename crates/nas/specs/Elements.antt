@@ -1,7 +1,7 @@
 -- One information element: its first octet x, and the octets behind it.
-use Rattle.std.specs.Prelude.{ℕ, ◌+◌, ◌*◌, Bool, cond, ◌||◌, List, length, take, drop, Ok, Err, Result, ◌==◌, nat_lt, slice_index}
+use Rattle.std.specs.Prelude.{ℕ, ◌+◌, ◌*◌, Bool, cond, ◌||◌, List, length, take, drop, Ok, Result, ◌==◌, nat_lt, slice_index}
 use Rattle.codes.specs.declared.refusal.Refusal.TheVariants.{Overrun, ElementKind}
-use Rattle.codes.specs.Refusals.{refusal_number}
+use Rattle.codes.specs.Refusals.{refuse}
 
 abbrev pub octet : List ℕ → ℕ → ℕ
 octet xs i = slice_index xs i
@@ -29,6 +29,6 @@ pub record Extent : Type 0 where
 
 abbrev pub element : ℕ → List ℕ → Result Extent ℕ
 element x rest =
-    cond (nat_lt x 0x10) (Err (refusal_number ElementKind))
-    (cond (nat_lt (length rest) (octets_of_length x + contents_length x rest)) (Err (refusal_number Overrun))
+    cond (nat_lt x 0x10) (refuse ElementKind)
+    (cond (nat_lt (length rest) (octets_of_length x + contents_length x rest)) (refuse Overrun)
     (Ok (record { size = octets_of_length x + contents_length x rest; contents = take (contents_length x rest) (drop (octets_of_length x) rest) })))

@@ -5,7 +5,7 @@ use Rattle.std.specs.Option.{option_map}
 use Rattle.codes.specs.declared.refusal.Refusal.TheVariants.{Overrun}
 use Rattle.nas.specs.Elements.{octet, session_kind}
 use Rattle.codes.specs.Refusals.{refuse}
-use Rattle.nas.specs.Uplinks.{Parts, Message, session_id, old_session_id, s_nssai, dnn_name, request_kind, request_bits, slice_length, slice_code, dnn_length, max_payload, judged, read}
+use Rattle.nas.specs.Uplinks.{Parts, Message, session_id, old_session_id, s_nssai, dnn_name, request_kind, request_bits, slice_length, slice_code, dnn_length, header_length, max_payload, judged, read}
 
 -- an information element: its first octet, and its contents
 pub record Ie : Type 0 where
@@ -82,7 +82,7 @@ FirstCounts xs r =
 -- A message that is cut short in front of its payload's end is refused as an overrun.
 abbrev pub CutInPayload : List ℕ → Result Message ℕ → Type 0
 CutInPayload xs r =
-    (a b : ℕ) (payload : List ℕ) (es : List Ie) (k : ℕ) → WellFormed payload es → k < 6 + length payload → xs ≡ take k (message a b payload es) → r ≡ refuse Overrun
+    (a b : ℕ) (payload : List ℕ) (es : List Ie) (k : ℕ) → WellFormed payload es → k < header_length + length payload → xs ≡ take k (message a b payload es) → r ≡ refuse Overrun
 
 -- A message that is cut short inside an element, behind the elements before it and in front of that element's end,
 -- is refused as an overrun. (Cut at an element's end it is a message with fewer elements, and is read as that.)

@@ -1,9 +1,9 @@
 -- What the steps of the reader promise.
-use Rattle.std.specs.Prelude.{◌≡◌, ℕ, ◌+◌, ◌<◌, ◌≤◌, List, [], length, drop, Some, None, Ok, Err, Option}
+use Rattle.std.specs.Prelude.{◌≡◌, ℕ, ◌+◌, ◌<◌, ◌≤◌, List, [], length, drop, Some, None, Ok, Option}
 use Rattle.nas.specs.declared.element.Element.{Element}
 use Rattle.nas.specs.declared.element.Extent.{Extent}
 use Rattle.codes.specs.declared.refusal.Refusal.{Refusal}
-use Rattle.codes.specs.Refusals.{refusal_number}
+use Rattle.codes.specs.Refusals.{refuse}
 use Rattle.nas.specs.Elements.{octet, octets_of_length, contents_length, element}
 
 -- e is what the element with the first octet x takes of the octets behind it
@@ -25,7 +25,7 @@ pub record Passed (xs : List ℕ) (e : Element) (ys : List ℕ) : Type 0 where
 -- the octets at the front of xs are refused as an element
 pub record Stopped (xs : List ℕ) (r : Refusal) : Type 0 where
   pub some : 0 < length xs
-  pub fault : element (octet xs 0) (drop 1 xs) ≡ Err (refusal_number r)
+  pub fault : element (octet xs 0) (drop 1 xs) ≡ refuse r
 
 abbrev pub Stepped : List ℕ → Option Element → List ℕ → Type 0
 Stepped xs None ys = xs ≡ []

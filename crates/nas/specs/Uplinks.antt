@@ -3,6 +3,7 @@ use Rattle.std.specs.Prelude.{ℕ, zero, suc, ◌+◌, ◌*◌, ◌%◌, Bool, t
 use Rattle.codes.specs.declared.refusal.Refusal.TheVariants.{Overrun, Header, PayloadType, PayloadLength, ElementLength, SessionBounds, UnknownRequest}
 use Rattle.codes.specs.Refusals.{refuse}
 use Rattle.codes.specs.RequestTypes.{request_in}
+use Rattle.codes.specs.Sessions.{session_fits}
 use Rattle.names.specs.Names.{max_name}
 use Rattle.nas.specs.Elements.{octet, pair, element}
 
@@ -114,7 +115,7 @@ pub record Message : Type 0 where
   pub dnn : Option (List ℕ)
 
 abbrev pub in_range : ℕ → Bool
-in_range s = nat_lt 0 s && nat_lt s 16
+in_range s = session_fits s
 
 abbrev pub old_fits : ℕ → Option ℕ → Bool
 old_fits s None = true
@@ -136,6 +137,14 @@ judged_at payload p (Some s) =
 abbrev pub judged : List ℕ → Parts → Result Message ℕ
 judged payload p = judged_at payload p p.session
 
+-- how many octets stand in front of the payload
+abbrev pub header_length : ℕ
+header_length = 6
+
+-- how many octets the shortest message has
+abbrev pub min_message : ℕ
+min_message = 7
+
 -- how many octets the longest payload has
 abbrev pub max_payload : ℕ
 max_payload = 2048
@@ -143,15 +152,15 @@ max_payload = 2048
 -- the payload's length
 abbrev pub header : List ℕ → Result ℕ ℕ
 header xs =
-    cond (nat_lt (length xs) 7) (refuse Overrun)
+    cond (nat_lt (length xs) min_message) (refuse Overrun)
     (cond (octet xs 0 == 0x7E && (octet xs 1 % 16 == 0 && octet xs 2 == 0x67))
     (cond (octet xs 3 % 16 == 1)
     (cond (nat_lt 0 (pair (drop 4 xs)) && nat_le (pair (drop 4 xs)) max_payload)
-    (cond (nat_lt (length xs) (6 + pair (drop 4 xs))) (refuse Overrun) (Ok (pair (drop 4 xs))))
+    (cond (nat_lt (length xs) (header_length + pair (drop 4 xs))) (refuse Overrun) (Ok (pair (drop 4 xs))))
     (refuse PayloadLength))
     (refuse PayloadType))
     (refuse Header))
 
 abbrev pub read : List ℕ → Result Message ℕ
 read xs =
-    then (header xs) (λ n. then (walk 0 nothing (drop (6 + n) xs)) (judged (take n (drop 6 xs))))
+    then (header xs) (λ n. then (walk 0 nothing (drop (header_length + n) xs)) (judged (take n (drop header_length xs))))

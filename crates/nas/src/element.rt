@@ -1,18 +1,24 @@
 // The information elements behind the payload.
-ghost use Rattle.std.specs.Prelude.{◌≡◌, Err, MatchResult};
-ghost use Rattle.codes.specs.Refusals.{refusal_number};
+ghost use Rattle.std.specs.Prelude.{◌≡◌, MatchResult};
+ghost use Rattle.codes.specs.Refusals.{refuse};
 ghost use Rattle.nas.specs.Elements.{element};
 ghost use Rattle.nas.specs.Steps.{Extends, Stepped, Stopped};
 
 use codes::Refusal;
 
-// First octets of elements. They stay octets, which is no less plain: a kind is also told by a range, as 0x80..=0x8F.
+// First octets of elements. They stay octets, since a kind is also told by a range, as 0x80..=0x8F.
+
+/// The PDU session's identity (PDU session identity 2, TS 24.501 clause 9.11.3.41).
 pub const SESSION_ID: u8 = 0x12;
 
+/// The slice (S-NSSAI, TS 24.501 clause 9.11.2.8).
 pub const S_NSSAI: u8 = 0x22;
 
+/// The DNN (TS 24.501 clause 9.11.2.1B).
 pub const DNN: u8 = 0x25;
 
+/// The identity of the session that is to be replaced (PDU session identity 2, TS 24.501 clause
+/// 9.11.3.41).
 pub const OLD_SESSION_ID: u8 = 0x59;
 
 // How many octets the length and the contents of an element take.
@@ -25,7 +31,9 @@ struct Extent {
 impl Extent {
     // `rest` is what follows the element's first octet.
     fn of(identifier: u8, rest: &[u8]) -> Result<Extent, Refusal>
-        ensures { MatchResult result (λ e. Extends identifier rest.now e) (λ e. element identifier rest.now ≡ Err (refusal_number e)) }
+        ensures { MatchResult result
+            (λ e. Extends identifier rest.now e)
+            (λ e. element identifier rest.now ≡ refuse e) }
     {
         let extent = match identifier {
             0x00..=0x0F => return Err(Refusal::ElementKind),
@@ -53,24 +61,28 @@ impl Extent {
     }
 }
 
-// An element by its first octet and its contents, which are a part of the message.
+/// An element by its first octet and its contents, which are a part of the message.
 #[derive(Drop)]
 pub struct Element<'a> {
     pub identifier: u8,
     pub contents: &'a [u8],
 }
 
-// Walks the elements, of which `rest` are yet to come.
+/// Walks the elements, of which `rest` are yet to come.
 #[derive(Drop)]
 pub struct Reader<'a> {
     pub rest: &'a [u8],
 }
 
 impl<'a> Reader<'a> {
-    // The next element, which is then passed over, or none at the end.
+    /// The next element, which is then passed over, or none at the end. One that cannot be is
+    /// refused by its first octet, one that runs past the message's end as an overrun; the reader
+    /// is then where it was.
     #[tactic(auto, using(crate::proofs::Passing::passed))]
     pub fn next_element(&mut self) -> Result<Option<Element<'a>>, Refusal>
-        ensures { MatchResult result (λ e. Stepped self.old.rest.now e self.new.rest.now) (λ e. Stopped self.old.rest.now e) }
+        ensures { MatchResult result
+            (λ e. Stepped self.old.rest.now e self.new.rest.now)
+            (λ e. Stopped self.old.rest.now e) }
     {
         let Some((identifier, behind)) = self.rest.split_first() else {
             return Ok(None);

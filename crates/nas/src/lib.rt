@@ -1,4 +1,4 @@
-// UL and DL NAS TRANSPORT messages: reads an uplink message, and writes the message that returns a payload.
+// NAS TRANSPORT messages: reads an uplink message, and writes the message that returns a payload.
 #![tactic(auto)]
 
 mod element;

@@ -7,10 +7,10 @@ use crate::element::SESSION_ID;
 use crate::uplink::MAX_PAYLOAD;
 use codes::{Cause, Refusal, SessionId, is_session};
 
-// The octets in front of the payload's length: a DL NAS TRANSPORT message of N1 SM information.
+/// The octets in front of the payload's length: a DL NAS TRANSPORT message of N1 SM information.
 pub const RETURN_HEADER: [u8; 4] = [0x7E, 0x00, 0x68, 0x01];
 
-// How many octets a return takes besides its payload, with the longest cause.
+/// How many octets a return takes besides its payload, with a cause that has a back-off octet.
 pub const RETURN_OVERHEAD: usize = 13;
 
 // What is written from the front on, up to `end`. The octets are lent, so this is no `Vec`.
@@ -32,12 +32,13 @@ impl<'a> Output<'a> {
         self.end = end;
     }
 
-    // The element that says how long to back off, where the cause has an octet for it. It stands alone, since behind an `if let` in
-    // `write_return` the check loses sight of the octets.
+    // The element that says how long to back off, where the cause has an octet for it. It stands
+    // alone, since behind an `if let` in `write_return` the check loses sight of the octets.
     fn put_back_off(&mut self, octet: Option<u8>)
         requires { self.old.end + length (back_off_element octet) ≤ length self.old.octets.now }
         ensures end { self.new.end ≡ self.old.end + length (back_off_element octet) }
-        ensures after { self.new.octets.now ≡ overwritten self.old.octets.now self.old.end (back_off_element octet) }
+        ensures after { self.new.octets.now
+            ≡ overwritten self.old.octets.now self.old.end (back_off_element octet) }
         ensures same_reference { self.new.octets.ghost_name ≡ self.old.octets.ghost_name }
     {
         if let Some(octet) = octet {
@@ -46,7 +47,10 @@ impl<'a> Output<'a> {
     }
 }
 
-// Writes the return to the front of `output`, and answers its length. The other octets stay.
+/// Writes the DL NAS TRANSPORT message (TS 24.501 clause 8.2.11) that returns a payload to the
+/// front of `output`, and answers its length in octets; the other octets stay. A payload that is
+/// not 1 to 2,048 octets long is refused, so is a session that is not 1 to 15, and an output
+/// shorter than the payload and 13 octets; `output` is then as it was.
 pub fn write_return(
     output: &mut [u8],
     payload: &[u8],

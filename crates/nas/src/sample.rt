@@ -2,7 +2,7 @@
 ghost use Rattle.std.specs.Prelude.{◌≡◌};
 ghost use Rattle.nas.specs.Sample.{sample, SampleReads};
 
-// The initial request of session 1, with a payload of four octets.
+/// The initial request of session 1, with a payload of four octets.
 pub fn sample_message() -> [u8; 13]
     ensures { result ≡ sample }
 {

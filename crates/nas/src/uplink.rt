@@ -7,18 +7,29 @@ ghost use Rattle.nas.specs.Views.{parts, seen, answer};
 
 use crate::element::{DNN, Element, OLD_SESSION_ID, Reader, S_NSSAI, SESSION_ID};
 use codes::{Refusal, RequestType, SessionId, SliceCode, is_session};
+use names::MAX_NAME;
 
-// The longest payload.
+/// How many octets the longest payload has.
 pub const MAX_PAYLOAD: usize = 2048;
 
-// A message as it was read. The payload and the DNN are parts of its octets.
+// How many octets stand in front of the payload.
+const HEADER_LENGTH: usize = 6;
+
+/// An UL NAS TRANSPORT message as it was read (TS 24.501 clause 8.2.10). The payload and the DNN
+/// are parts of its octets.
 #[derive(Clone, Copy, Debug)]
 pub struct Uplink<'a> {
+    /// 1 to 2,048 octets of N1 SM information.
     pub payload: &'a [u8],
+    /// 1 to 15 (PDU session identity 2, clause 9.11.3.41).
     pub session: SessionId,
+    /// The session that this one replaces: 1 to 15, and another (clause 9.11.3.41).
     pub old_session: Option<SessionId>,
+    /// What is asked for (request type, clause 9.11.3.47).
     pub request_type: Option<RequestType>,
+    /// The slice (S-NSSAI, clause 9.11.2.8).
     pub slice: Option<SliceCode>,
+    /// The DNN's 1 to 100 octets (clause 9.11.2.1B).
     pub dnn: Option<&'a [u8]>,
 }
 
@@ -49,7 +60,7 @@ fn read_header(octets: &[u8]) -> Result<usize, Refusal>
     if !(1..=MAX_PAYLOAD).contains(&length) {
         return Err(Refusal::PayloadLength);
     }
-    if octets.len() < 6 + length {
+    if octets.len() < HEADER_LENGTH + length {
         return Err(Refusal::Overrun);
     }
     Ok(length)
@@ -82,7 +93,8 @@ struct Parts<'a> {
 impl<'a> Parts<'a> {
     // Takes in what an element says, unless one of its kind came before.
     fn note(&mut self, element: Element<'a>) -> Result<(), Refusal>
-        ensures { seen (λ _. parts self.new) result ≡ noted (parts self.old) element.entry.identifier element.entry.contents.now }
+        ensures { seen (λ _. parts self.new) result
+            ≡ noted (parts self.old) element.entry.identifier element.entry.contents.now }
     {
         match element.identifier {
             SESSION_ID if self.session.is_none() => {
@@ -93,7 +105,7 @@ impl<'a> Parts<'a> {
             }
             S_NSSAI if self.slice.is_none() => self.slice = Some(slice_code(element.contents)?),
             DNN if self.dnn.is_none() => {
-                if !(1..=100).contains(&element.contents.len()) {
+                if !(1..=MAX_NAME).contains(&element.contents.len()) {
                     return Err(Refusal::ElementLength);
                 }
                 self.dnn = Some(element.contents);
@@ -107,7 +119,7 @@ impl<'a> Parts<'a> {
     }
 
     // What the elements in `rest` say.
-    #[tactic(auto, using(crate::proofs::Passing::walk_stop, crate::proofs::Passing::walk_refuse, crate::proofs::Passing::walk_step), unfolding(crate::specs::Uplinks::walk))]
+    #[tactic(auto, using(crate::proofs::Passing::walk_laws), unfolding(crate::specs::Uplinks::walk))]
     fn read(rest: &'a [u8]) -> Result<Parts<'a>, Refusal>
         ensures { seen parts result ≡ walk 0 nothing rest.now }
     {
@@ -145,13 +157,16 @@ impl<'a> Parts<'a> {
     }
 }
 
-// Reads a whole message. `Reads` is the definition of the answer, with the laws that stand above it.
+/// Reads a whole UL NAS TRANSPORT message (TS 24.501 clause 8.2.10), of whose elements the first of
+/// each kind counts. `Reads` defines the answer, with the laws that stand above it: a message is
+/// refused that is cut short, has another header, a payload that is not 1 to 2,048 octets long, an
+/// element that cannot be, or a session or a request type that is out of bounds.
 #[tactic(auto, using(crate::proofs::Laws::lawful, crate::proofs::Passing::elements_split))]
 pub fn read_uplink(octets: &[u8]) -> Result<Uplink<'_>, Refusal>
     ensures { Reads octets.now (answer result) }
 {
     let length = read_header(octets)?;
-    let (_, behind) = octets.split_at(6);
+    let (_, behind) = octets.split_at(HEADER_LENGTH);
     let (payload, elements) = behind.split_at(length);
     Parts::read(elements)?.judge(payload)
 }

@@ -3,6 +3,7 @@ ghost use Rattle.printing.specs.Absent.{shown_or_dash};
 
 use std::fmt;
 
+/// A value that may be absent, which `-` stands for.
 #[derive(Drop)]
 pub struct OrAbsent<T>(pub Option<T>);
 

@@ -4,7 +4,8 @@ ghost use Rattle.printing.specs.Octets.{octets_text};
 
 use std::fmt;
 
-// Octets, to be written as a scenario's text has them.
+/// Octets, to be written as a scenario's text has them: two hexadecimal digits each, or `-` where
+/// there are none.
 #[derive(Clone, Copy)]
 pub struct Octets<'a>(pub &'a [u8]);
 

@@ -7,7 +7,7 @@ use crate::octets::Octets;
 use std::fmt;
 use std::fmt::Display;
 
-// A slice code, to be written as the four octets that it has.
+/// A slice code, to be written as the four octets that it has.
 #[derive(Clone, Copy)]
 pub struct Slice(pub u32);
 

@@ -4,7 +4,8 @@ ghost use Rattle.scenario.specs.Number.{number_in};
 
 use crate::words::begins_with;
 
-// `None` where the word is no number, or one that 64 bits do not hold.
+/// The number that a word writes in decimal digits; `None` where the word is no number, or one that
+/// 64 bits do not hold. What is printed of a number reads back as that number.
 #[tactic(auto, using(crate::proofs::Decimals::numbers))]
 pub fn parse_number(word: &[u8]) -> Option<u64>
     ensures value { result ≡ number_in word.now }

@@ -20,7 +20,7 @@ pub(crate) fn octet_value(high: u8, low: u8) -> Option<u8>
     Some(digit_value(high)? * 16 + digit_value(low)?)
 }
 
-// One octet; `None` where the word is not two digits.
+/// The octet that a word writes; `None` where the word is not two hexadecimal digits.
 pub fn parse_octet(word: &[u8]) -> Option<u8>
     ensures { result ≡ octet_in word.now }
 {
@@ -49,11 +49,14 @@ fn parse_pairs(heap: Global, word: &[u8]) -> Result<Option<Vec<u8>>, AllocError>
     Ok(Some(octets))
 }
 
-// `None` where the word is neither `-` nor pairs of digits.
+/// The octets that a word writes, none for `-`; `None` where the word is neither `-` nor pairs of
+/// hexadecimal digits. Only a lack of memory is an error. What is printed of octets reads back as
+/// those octets.
 #[tactic(auto, using(crate::proofs::Pairs::octets_read))]
 pub fn parse_octets(heap: Global, word: &[u8]) -> Result<Option<Vec<u8>>, AllocError>
     ensures value { IfOk result (λ o. option_map vec_items o ≡ octets_in word.now) }
-    ensures reads_back { IfOk result (λ o. (xs : List ℕ) → AllByRecursion (λ x. x < 256) xs → word.now ≡ octets_text xs → option_map vec_items o ≡ Some xs) }
+    ensures reads_back { IfOk result (λ o. (xs : List ℕ) →
+        AllByRecursion (λ x. x < 256) xs → word.now ≡ octets_text xs → option_map vec_items o ≡ Some xs) }
 {
     match word {
         [] => Ok(None),

@@ -6,7 +6,8 @@ ghost use Rattle.scenario.specs.Slice.{slice_in};
 
 use crate::octets::octet_value;
 
-// `None` where the word is not eight digits. What is printed of a slice code reads back as that code.
+/// The slice code that a word writes, the SST first; `None` where the word is not eight hexadecimal
+/// digits. What is printed of a slice code reads back as that code.
 #[tactic(auto, using(crate::proofs::Codes::slice_back))]
 pub fn parse_slice(word: &[u8]) -> Option<u32>
     ensures value { result ≡ slice_in word.now }
