@@ -237,26 +237,20 @@ same_octets xs ys e = cc
 pub faithful : (o : Opening) (e : Entry) (es : List Entry) (m n : Model) → Invariant o (account_of o es) m → Told es (account_of o es) → Step m e n → Faithful o e es
 faithful o (receive r chosen ticket (Ok a)) es m n i t s =
     receiving.faithful o es m r chosen ticket a n (receiving.done m r chosen ticket a n s.1)
-faithful o (receive r chosen ticket (Err x)) es m n i t s = tt
 faithful o (payload pool u (Ok x)) es m n i t s =
     let g = opened_flight (flight m u) (λ f. Ok (slot_octets m.pool u.slot f.length)) x (passed (pool == pool_length) PoolLength _ x s.answer) in
     let w = carried o es m i t u g.0 g.1 in
     (w.0, w.1, same_octets x (slot_octets m.pool u.slot g.0.length) g.2 ∙ w.2)
-faithful o (payload pool u (Err x)) es m n i t s = tt
 faithful o (taken u (Ok x)) es m n i t s =
     let g = opened_flight (flight m u) (λ f. Ok tt) x s.answer in
     let w = carried o es m i t u g.0 g.1 in
     (w.0, w.1)
-faithful o (taken u (Err x)) es m n i t s = tt
 faithful o (failed pool output u (Ok x)) es m n i t s =
     let g = opened_flight (flight m u) (λ f. passing (nat_le (f.length + 13) output) OutputLength (Ok (undelivered m u f))) x (passed (pool == pool_length) PoolLength _ x s.answer) in
     let w = carried o es m i t u g.0 g.1 in
     let same = same_octets x (undelivered m u g.0) (passed (nat_le (g.0.length + 13) output) OutputLength _ x g.2) in
     (w.0, w.1, same ∙ (λ j. returned (w.2 j) (w.3 j) NotForwarded), w.4 ∙ ap (λ (l : List ℕ). Some l) (sym same))
-faithful o (failed pool output u (Err x)) es m n i t s = tt
-faithful o (park u a) es m n i t s = tt
-faithful o (pick number a) es m n i t s = tt
-faithful o (released u k a) es m n i t s = tt
+faithful o e es m n i t s = tt
 
 -- ---- what became of each accepted receive
 
