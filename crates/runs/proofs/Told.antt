@@ -172,14 +172,11 @@ accepts o r chosen ticket a es (x, reads, is) t =
 
 pub tells : (o : Opening) (e : Entry) (es : List Entry) → Answered o e es → Told es (account_of o es) → Told (e ∷ es) (account_of o (e ∷ es))
 tells o (receive r chosen ticket (Ok a)) es h t = accepts o r chosen ticket a es h t
-tells o (receive r chosen ticket (Err x)) es h t = stays_told _ es (account_of o es) (λ r chosen ticket a e. cc) (λ n c j. j) (λ n c. refl) (λ n. refl) (λ n. refl) t
 tells o (payload pool u (Ok x)) es h t = stays_told _ es (account_of o es) (λ r chosen ticket a e. cc) (λ n c j. j) (λ n c. refl) (λ n. refl) (λ n. refl) t
-tells o (payload pool u (Err x)) es h t = stays_told _ es (account_of o es) (λ r chosen ticket a e. cc) (λ n c j. j) (λ n c. refl) (λ n. refl) (λ n. refl) t
 tells o (taken u (Ok x)) es h t = record {
   listed = passes (taken u (Ok x)) es (account_of o es).contexts (λ n c j. j) (λ n c. refl) t.listed;
   paid = taken_one u x es (account_of o es).payloads t.paid;
 }
-tells o (taken u (Err x)) es h t = stays_told _ es (account_of o es) (λ r chosen ticket a e. cc) (λ n c j. j) (λ n c. refl) (λ n. refl) (λ n. refl) t
 tells o (failed pool output u (Ok x)) es h t = record {
   listed = keeps (failed pool output u (Ok x)) es (account_of o es).contexts (λ y. not (eqb y.number u.number)) (λ n c j. j) (λ y p. other u.number y.number (not-true _ p)) (λ y s. not_from_false _ (other y.number u.number s)) t.listed;
   paid = failed_one pool output u x es (account_of o es).payloads t.paid;
@@ -187,16 +184,14 @@ tells o (failed pool output u (Ok x)) es h t = record {
   where
     other : (j k : ℕ) → eqb k j ≡ false → eqb j k ≡ false
     other j k e = ne_eqb j k (λ q. eqb-false k j e (sym q))
-tells o (failed pool output u (Err x)) es h t = stays_told _ es (account_of o es) (λ r chosen ticket a e. cc) (λ n c j. j) (λ n c. refl) (λ n. refl) (λ n. refl) t
 tells o (park u (Ok x)) es h t = stays_told _ es (account_of o es) (λ r chosen ticket a e. cc) (λ n c j. j) (λ n c. refl) (λ n. refl) (λ n. refl) t
-tells o (park u (Err x)) es h t = stays_told _ es (account_of o es) (λ r chosen ticket a e. cc) (λ n c j. j) (λ n c. refl) (λ n. refl) (λ n. refl) t
 tells o (pick number (Ok x)) es h t = stays_told _ es (account_of o es) (λ r chosen ticket a e. cc) (λ n c j. j) (λ n c. refl) (λ n. refl) (λ n. refl) t
-tells o (pick number (Err x)) es h t = stays_told _ es (account_of o es) (λ r chosen ticket a e. cc) (λ n c j. j) (λ n c. refl) (λ n. refl) (λ n. refl) t
 tells o (released u k (Ok x)) es h t = record {
   listed = keeps (released u k (Ok x)) es (account_of o es).contexts (λ y. not (is_of u k y.context)) (λ n c j. j) (λ y p. turned_false y.context.ue u y.context.session k (not-true _ p)) (λ y s. not_from_false _ (turned_false u y.context.ue k y.context.session s)) t.listed;
   paid = unmoved (released u k (Ok x)) es (account_of o es).payloads (λ r chosen ticket a e. cc) (λ n. refl) (λ n. refl) t.paid;
 }
-tells o (released u k (Err x)) es h t = stays_told _ es (account_of o es) (λ r chosen ticket a e. cc) (λ n c j. j) (λ n c. refl) (λ n. refl) (λ n. refl) t
+-- a call that was refused
+tells o e es h t = stays_told e es (account_of o es) (λ r chosen ticket a q. cc) (λ n c j. j) (λ n c. refl) (λ n. refl) (λ n. refl) t
 
 -- ---- the set of contexts, by places
 
