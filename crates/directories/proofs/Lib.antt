@@ -1,3 +1,4 @@
+mod Names
 mod Firsts
 mod Lowests
 mod Rounds

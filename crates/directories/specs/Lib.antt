@@ -1,4 +1,5 @@
 pub mod Choices
+pub mod Consultations
 pub mod Meanings
 pub mod Lines
 pub mod Additions

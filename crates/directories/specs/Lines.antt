@@ -3,6 +3,10 @@ use Rattle.std.specs.Prelude.{◌≡◌, ℕ, ◌<◌, Bool, true, false, cond, 
 use Rattle.std.specs.List.{list_any, AllWithin}
 use Rattle.directories.specs.declared.service_line.ServiceLine.{ServiceLine}
 
+-- how many lines a list directory holds at most, and how many pairs of a slice and an SMF a turning one does
+abbrev pub capacity : ℕ
+capacity = 64
+
 -- a DNN number that a line can have
 abbrev pub numbered : ℕ → Bool
 numbered n = nat_lt 0 n && nat_le n 64
@@ -36,9 +40,9 @@ pub record First (lines : List ServiceLine) (s n i : ℕ) : Type 0 where
   pub here : HoldsAt (λ l. line_for l s n ≡ true) lines i
   pub before : AllWithin (λ l. line_for l s n ≡ false) lines 0 i
 
--- what a list of these lines refuses: a bad line, and a 65th
+-- what a list of these lines refuses: a bad line, and one more than there may be
 abbrev pub lines_refuse : List ServiceLine → ServiceLine → Bool
-lines_refuse lines l = not (good_line l) || nat_le 64 (length lines)
+lines_refuse lines l = not (good_line l) || nat_le capacity (length lines)
 
 -- m is the SMF of a line that is the first for slice s and DNN n
 abbrev pub FirstSmf : List ServiceLine → ℕ → ℕ → ℕ → Type 0

@@ -1,9 +1,10 @@
 -- The sets of a turning directory: whose they are, and who serves by them.
 use Rattle.std.specs.Prelude.{◌≡◌, ℕ, ◌-◌, ◌<◌, Bool, true, false, not, ◌&&◌, ◌||◌, List, length, ◌==◌, nat_le, nat_lt, slice_index_or, slice_set, replicate, All, HoldsAt, AllPairs}
 use Rattle.std.specs.List.{list_any}
+use Rattle.codes.specs.declared.slice_dnn.SliceDnn.{SliceDnn}
 use Rattle.directories.specs.declared.served_set.ServedSet.{ServedSet}
 use Rattle.directories.specs.declared.service_line.ServiceLine.{ServiceLine}
-use Rattle.directories.specs.Lines.{numbered, good_line}
+use Rattle.directories.specs.Lines.{capacity, numbered, good_line}
 
 -- by the set, its SMF serves slice s and DNN n
 abbrev pub set_for : ServedSet → ℕ → ℕ → Bool
@@ -14,6 +15,10 @@ set_serves x s n m = set_for x s n && x.smf == m
 
 abbrev pub sets_serve : List ServedSet → ℕ → ℕ → ℕ → Bool
 sets_serve sets s n m = list_any (λ x. set_serves x s n m) sets
+
+-- by the sets, SMF m serves what is wanted
+abbrev pub serve_wanted : List ServedSet → SliceDnn → ℕ → Bool
+serve_wanted sets w = sets_serve sets w.slice w.dnn
 
 -- the set is that of slice s and SMF m
 abbrev pub is_pair : ServedSet → ℕ → ℕ → Bool
@@ -53,6 +58,6 @@ Apart sets = AllPairs (λ x y. is_pair x y.slice y.smf ≡ false) sets
 abbrev pub good_set : ServedSet → Bool
 good_set x = nat_lt 0 x.smf && length x.numbers == 64
 
--- what a directory with these sets refuses: a bad line, and a 65th pair
+-- what a directory with these sets refuses: a bad line, and one pair more than there may be
 abbrev pub sets_refuse : List ServedSet → ServiceLine → Bool
-sets_refuse sets l = not (good_line l) || (not (holds_pair sets l.slice l.smf) && nat_le 64 (length sets))
+sets_refuse sets l = not (good_line l) || (not (holds_pair sets l.slice l.smf) && nat_le capacity (length sets))

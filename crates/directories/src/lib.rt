@@ -7,7 +7,6 @@ mod list_directory;
 mod no_smf;
 mod served_set;
 mod service_line;
-mod serving;
 mod takes_one;
 mod turning_directory;
 
@@ -15,6 +14,5 @@ pub use directory::Directory;
 pub use list_directory::ListDirectory;
 pub use no_smf::NoSmf;
 pub use service_line::ServiceLine;
-pub use serving::serving_smf;
 pub use takes_one::TakesOne;
 pub use turning_directory::TurningDirectory;

@@ -1,4 +1,4 @@
-// Why a directory names no SMF.
+/// Why a directory names no SMF.
 #[derive(Clone, Copy, Debug, PartialEq, Eq)]
 pub enum NoSmf {
     /// The directory is closed.

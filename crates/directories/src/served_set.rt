@@ -15,7 +15,8 @@ pub(crate) struct ServedSet {
 }
 
 impl ServedSet {
-    // The set of the line's slice and SMF, with its DNN alone. No `From`, since it asks for a good line.
+    // The set of the line's slice and SMF, with its DNN alone. No `From`, since it asks for a good
+    // line.
     pub(crate) fn of(line: ServiceLine) -> ServedSet
         requires { numbered line.dnn ≡ true }
         ensures { result ≡ set_of line }

@@ -1,4 +1,4 @@
-// One SMF that serves a slice and a DNN.
+// Service lines.
 ghost use Rattle.std.specs.Prelude.{◌≡◌};
 ghost use Rattle.directories.specs.Lines.{good_line, line_for, numbered};
 
@@ -11,11 +11,15 @@ pub(crate) fn is_numbered(dnn: DnnNumber) -> bool
     (1..=64).contains(&dnn)
 }
 
+/// One SMF that serves a slice and a DNN.
 // Plain fields, as each is read by itself: a nested `SliceDnn` would only lengthen that.
 #[derive(Clone, Copy)]
 pub struct ServiceLine {
+    /// The S-NSSAI by its code.
     pub slice: SliceCode,
+    /// The DNN by its number, of which a directory takes 1 to 64.
     pub dnn: DnnNumber,
+    /// The SMF by its ID, of which a directory takes 1 to 255.
     pub smf: SmfId,
 }
 

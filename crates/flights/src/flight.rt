@@ -1,9 +1,10 @@
-// A payload in flight.
+// Flights.
 ghost use Rattle.std.specs.Prelude.{◌≡◌};
 ghost use Rattle.flights.specs.Slots.{with_mark};
 
 use codes::{SessionId, UeNumber};
 
+/// Who has the ticket of a flight.
 #[derive(Clone, Copy, Debug, PartialEq, Eq)]
 pub enum Mark {
     /// The host has its ticket.
@@ -12,9 +13,10 @@ pub enum Mark {
     Parked,
 }
 
-// It stands in a slot of the pool, which has its octets.
+/// A payload in flight. It stands in a slot of the pool, which has its octets.
 #[derive(Clone, Copy)]
 pub struct Flight {
+    /// That of the message which had it.
     pub number: u32,
     pub ue: UeNumber,
     pub session: SessionId,

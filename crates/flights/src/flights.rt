@@ -1,4 +1,4 @@
-// The flights by the slots of the pool that have their octets.
+// All flights.
 ghost use Rattle.std.specs.Prelude.{◌≡◌, ◌<◌, length, IfSome, is_some, nat_lt, None, replicate, slice_set, Some};
 ghost use Rattle.std.specs.List.{count_by, list_any, position};
 ghost use Rattle.flights.specs.Slots.{at, is_free, is_for, is_parked, in_hand, marked};
@@ -6,25 +6,26 @@ ghost use Rattle.flights.specs.Slots.{at, is_free, is_for, is_parked, in_hand, m
 use crate::flight::{Flight, Mark};
 use stores::PduSession;
 
-// How many slots there are.
+/// How many slots the pool has, and so how many payloads may be in flight.
 pub const SLOTS: usize = 16;
 
+/// The flights, each in the slot that has its octets.
 #[derive(Drop)]
 pub struct Flights {
     slots: [Option<Flight>; SLOTS],
 }
 
 impl Flights {
-    // None is in flight.
+    /// None is in flight.
     pub fn new() -> Flights
-        ensures { result.slots ≡ replicate 16 None }
+        ensures { result.slots ≡ replicate SLOTS None }
     {
         Flights {
             slots: [None; SLOTS],
         }
     }
 
-    // Whether a payload of the session is in flight.
+    /// Whether a payload of the session is in flight.
     pub fn has(&self, session: PduSession) -> bool
         ensures { result ≡ list_any (is_for session.ue session.id) self.now.slots }
     {
@@ -39,46 +40,47 @@ impl Flights {
         self.slots.iter().position(|slot| slot.is_none())
     }
 
-    // The first slot that is free. There is one exactly while fewer than sixteen flights stand.
+    /// The first slot that is free. There is one exactly while fewer flights stand than there are
+    /// slots.
     #[tactic(auto, using(crate::proofs::Spare::spare, crate::proofs::Spare::free))]
     pub fn free_slot(&self) -> Option<usize>
         ensures value { result ≡ position is_free self.now.slots }
-        ensures spare { is_some result ≡ nat_lt (count_by is_some self.now.slots) 16 }
-        ensures free { IfSome result (λ k. (k < 16) × (at self.now.slots k ≡ None)) }
+        ensures spare { is_some result ≡ nat_lt (count_by is_some self.now.slots) SLOTS }
+        ensures free { IfSome result (λ k. (k < SLOTS) × (at self.now.slots k ≡ None)) }
     {
         self.first_free()
     }
 
-    // The slot of the flight that is parked under this number.
+    /// The slot of the flight that is parked under this number.
     pub fn find_parked(&self, number: u32) -> Option<usize>
         ensures value { result ≡ position (is_parked number) self.now.slots }
-        ensures slot { IfSome result (λ k. k < 16) }
+        ensures slot { IfSome result (λ k. k < SLOTS) }
     {
         self.slots.iter().position(|slot| {
             slot.is_some_and(|flight| flight.mark == Mark::Parked && flight.number == number)
         })
     }
 
-    // The flight of this number, if it stands in this slot and its ticket is in hand.
+    /// The flight of this number, if it stands in this slot and its ticket is in hand.
     pub fn in_hand(&self, number: u32, slot: usize) -> Option<Flight>
         ensures value { result ≡ in_hand self.now.slots number slot }
-        ensures slot { IfSome result (λ _. slot < 16) }
+        ensures slot { IfSome result (λ _. slot < SLOTS) }
     {
         let flight = *self.slots.get(slot)?;
         flight.filter(|flight| flight.mark == Mark::InHand && flight.number == number)
     }
 
-    // The slot has this flight. There is no slot past the last one.
+    /// The slot has this flight. There is no slot past the last one: such a call changes nothing.
     pub fn open(&mut self, slot: usize, flight: Flight)
         ensures slots { self.new.slots ≡ slice_set self.old.slots slot (Some flight) }
-        ensures count { length self.old.slots ≡ 16 }
+        ensures count { length self.old.slots ≡ SLOTS }
     {
         if slot < self.slots.len() {
             self.slots[slot] = Some(flight);
         }
     }
 
-    // The slot is free.
+    /// The slot is free.
     pub fn close(&mut self, slot: usize)
         ensures { self.new.slots ≡ slice_set self.old.slots slot None }
     {
@@ -87,9 +89,10 @@ impl Flights {
         }
     }
 
-    // The flight in the slot, if there is one, has this mark.
+    /// The flight in the slot, if there is one, has this mark.
     pub fn mark(&mut self, slot: usize, mark: Mark)
-        ensures { self.new.slots ≡ slice_set self.old.slots slot (marked mark (at self.old.slots slot)) }
+        ensures { self.new.slots ≡
+            slice_set self.old.slots slot (marked mark (at self.old.slots slot)) }
     {
         if slot >= self.slots.len() {
             return;

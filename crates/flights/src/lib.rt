@@ -1,4 +1,5 @@
-// Payloads in flight: those that were forwarded to an SMF, and that it has neither taken nor failed to take.
+// Payloads in flight: those that were forwarded to an SMF, and that it has neither taken nor failed
+// to take.
 #![tactic(auto)]
 
 mod flight;

@@ -1,4 +1,4 @@
-// A PDU session of a UE that exists elsewhere, as the subscription data tell: the SMF that has it.
+// Known lines.
 ghost use Rattle.std.specs.Prelude.{◌≡◌, length};
 ghost use Rattle.records.specs.Records.{known_fits};
 
@@ -6,6 +6,7 @@ use crate::numbering::has_number;
 use codes::{DnnNumber, SessionId, SmfId, is_session};
 use names::Book;
 
+/// A PDU session of a UE that exists elsewhere, as the subscription data tell: the SMF that has it.
 #[derive(Clone, Copy)]
 pub struct KnownLine {
     pub session: SessionId,

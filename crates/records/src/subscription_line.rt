@@ -1,6 +1,7 @@
-// What a UE has subscribed in a slice.
+// Subscription lines.
 use codes::{DnnNumber, SliceCode};
 
+/// What a UE has subscribed in a slice.
 #[derive(Clone, Copy)]
 pub struct SubscriptionLine {
     pub slice: SliceCode,

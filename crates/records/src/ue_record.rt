@@ -1,6 +1,7 @@
-// What a host tells of a UE with each of its messages.
-ghost use Rattle.std.specs.Prelude.{◌≡◌, length, Ok, Err, if◌then◌else◌};
+// UE records.
+ghost use Rattle.std.specs.Prelude.{◌≡◌, length, Ok, if◌then◌else◌};
 ghost use Rattle.codes.specs.declared.refusal.Refusal.TheVariants.{RecordBounds};
+ghost use Rattle.codes.specs.Refusals.{numbered, refuse};
 ghost use Rattle.records.specs.Records.{plain, record_fits, subscription_fits, known_fits};
 ghost use Rattle.records.specs.Firsts.{default_slice, default_dnn, allows, known_session, known_dnn};
 ghost use Rattle.std.specs.List.{list_all};
@@ -11,15 +12,19 @@ use crate::subscription_line::SubscriptionLine;
 use codes::{DnnNumber, Refusal, SessionId, SliceCode, SmfId, UeNumber};
 use names::Book;
 
+/// What a host tells of a UE with each of its messages.
 #[derive(Clone, Copy)]
 pub struct UeRecord<'a> {
+    /// At least 1.
     pub number: UeNumber,
     pub high_priority: bool,
     /// A mobility registration of the UE is awaited.
     pub awaits_registration: bool,
-    /// The most PDU sessions that it may have.
+    /// The most PDU sessions that it may have, 1 to 15.
     pub session_limit: u8,
+    /// Up to 32.
     pub subscriptions: &'a [SubscriptionLine],
+    /// Up to 15.
     pub known: &'a [KnownLine],
 }
 
@@ -48,9 +53,11 @@ impl<'a> UeRecord<'a> {
             && are_known(self.known, book)
     }
 
-    // Refuses a record that is out of bounds.
+    /// Refuses a record that is out of bounds: a number or a line that is, too many lines, or a DNN
+    /// that is not in the book.
     pub fn check(&self, book: &Book) -> Result<(), Refusal>
-        ensures { result ≡ (if record_fits (length book.now) (plain self.now) then Ok tt else Err RecordBounds) }
+        ensures { numbered result ≡
+            (if record_fits (length book.now) (plain self.now) then Ok tt else refuse RecordBounds) }
     {
         if !self.is_in_bounds(book) {
             return Err(Refusal::RecordBounds);
@@ -58,7 +65,7 @@ impl<'a> UeRecord<'a> {
         Ok(())
     }
 
-    // The slice to be used where a message names none: that of the first default-slice line.
+    /// The slice to be used where a message names none: that of the first default-slice line.
     pub fn default_slice(&self) -> Option<SliceCode>
         ensures { result ≡ default_slice (plain self.now) }
     {
@@ -68,7 +75,8 @@ impl<'a> UeRecord<'a> {
             .map(|line| line.slice)
     }
 
-    // The DNN to be used in a slice where a message names none: that of the slice's first default-DNN line.
+    /// The DNN to be used in a slice where a message names none: that of the slice's first
+    /// default-DNN line.
     pub fn default_dnn(&self, slice: SliceCode) -> Option<DnnNumber>
         ensures { result ≡ default_dnn (plain self.now) slice }
     {
@@ -78,7 +86,7 @@ impl<'a> UeRecord<'a> {
             .map(|line| line.dnn)
     }
 
-    // Whether a PDU session of this slice may be moved here.
+    /// Whether a PDU session of this slice may be moved here.
     pub fn allows(&self, slice: SliceCode) -> bool
         ensures { result ≡ allows (plain self.now) slice }
     {
@@ -87,7 +95,7 @@ impl<'a> UeRecord<'a> {
             .any(|line| line.allowed && line.slice == slice)
     }
 
-    // The SMF of the first known line of a session.
+    /// The SMF of the first known line of a session.
     pub fn known_session(&self, session: SessionId) -> Option<SmfId>
         ensures { result ≡ known_session (plain self.now) session }
     {
@@ -97,7 +105,7 @@ impl<'a> UeRecord<'a> {
             .map(|line| line.smf)
     }
 
-    // The SMF of the first known line of a DNN.
+    /// The SMF of the first known line of a DNN.
     pub fn known_dnn(&self, dnn: DnnNumber) -> Option<SmfId>
         ensures { result ≡ known_dnn (plain self.now) dnn }
     {

@@ -4,6 +4,8 @@ use Rattle.codes.specs.declared.request_type.RequestType.{RequestType}
 use Rattle.codes.specs.RequestTypes.{request_number}
 use Rattle.codes.specs.declared.request_type.RequestType.TheVariants.{InitialEmergency, ExistingEmergency}
 use Rattle.control.specs.declared.control_key.ControlKey.{ControlKey}
+use Rattle.control.specs.declared.control_row.ControlRow.{ControlRow}
+use Rattle.control.specs.Lines.{back_off_of}
 use Rattle.stores.specs.declared.context.Context.{Context}
 use Rattle.stores.specs.Contexts.{lookup}
 use Rattle.records.specs.declared.configuration.Configuration.{Configuration}
@@ -31,6 +33,10 @@ pub record Case : Type 0 where
 
 abbrev pub case_of : code.Inquiry → List Context → (ControlKey → Option ℕ) → Case
 case_of q xs b = record { asked = asked q; contexts = xs; back_off = b }
+
+-- the same with the rows that have the control lines
+abbrev pub posed : code.Inquiry → List Context → List ControlRow → Case
+posed q xs rows = case_of q xs (back_off_of rows)
 
 -- the same over other contexts
 abbrev pub over : List Context → Case → Case

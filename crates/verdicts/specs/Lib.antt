@@ -4,3 +4,4 @@ pub mod Rulings
 pub mod Rules
 pub mod Verdicts
 pub mod Laws
+pub mod Judgements

@@ -15,7 +15,7 @@ use Rattle.verdicts.specs.declared.decision.Decision.TheVariants.{Forward, Estab
 use Rattle.verdicts.specs.declared.outcome.Outcome.{Outcome}
 use Rattle.verdicts.specs.declared.outcome.Outcome.TheVariants.{Settled, Choose}
 use Rattle.verdicts.specs.declared.ruling.Ruling.{Ruling}
-use Rattle.verdicts.specs.Rulings.{only, settled}
+use Rattle.verdicts.specs.Rulings.{only, settled, asks_directory}
 use Rattle.verdicts.specs.Cases.{Asked, Case, standing, requests, for_emergency}
 use Rattle.verdicts.specs.Used.{used}
 
@@ -148,6 +148,10 @@ ruling_with a xs back_off o u = first_ruling (rules_with a xs back_off o u)
 abbrev pub ruling : Case → Ruling
 ruling c =
     ruling_with c.asked c.contexts c.back_off (standing c) (used c.asked (standing c))
+
+-- a directory has to choose on this case
+abbrev pub has_choice : Case → Bool
+has_choice c = asks_directory (ruling c).outcome
 
 -- ---- the same in two halves
 

@@ -1,4 +1,4 @@
-// What a UE asks for one of its sessions.
+// Inquiries.
 ghost use Rattle.std.specs.Prelude.{◌≡◌};
 ghost use Rattle.codes.specs.declared.request_type.RequestType.TheVariants.{Initial};
 ghost use Rattle.verdicts.specs.Cases.{asked, requests, for_emergency};
@@ -9,19 +9,22 @@ use codes::{DnnNumber, RequestType, SessionId, SliceCode, SliceDnn, SmfId};
 use records::{Configuration, UeRecord};
 use stores::{Context, PduSession};
 
-// A message, but for its octets, and what the host tells of its sender and of the core.
+/// What a UE asks for one of its sessions: a message but for its octets, and what the host tells of
+/// its sender and of the core.
 #[derive(Clone, Copy)]
 pub struct Inquiry<'a> {
     pub record: UeRecord<'a>,
     pub configuration: Configuration,
     pub session: SessionId,
     pub request_type: Option<RequestType>,
+    /// The S-NSSAI that the message names, by its code.
     pub slice: Option<SliceCode>,
+    /// The DNN that the message names, by its number in the book, and 0 where it is not there.
     pub dnn: Option<DnnNumber>,
 }
 
 impl<'a> Inquiry<'a> {
-    // The session that is asked for.
+    /// The session that is asked for.
     pub fn pdu_session(&self) -> PduSession
         ensures ue { result.ue ≡ self.now.record.number }
         ensures id { result.id ≡ self.now.session }
@@ -89,7 +92,7 @@ impl<'a> Inquiry<'a> {
         }
     }
 
-    // The slice and the DNN that a verdict goes by, where the session has this context.
+    /// The slice and the DNN that a verdict goes by, where the session has this context.
     #[tactic(auto, using(crate::proofs::Using::uses))]
     pub fn slice_and_dnn(&self, context: Option<Context>) -> SliceDnn
         ensures { Uses (asked self.now) context result }
@@ -108,7 +111,7 @@ impl<'a> Inquiry<'a> {
         may_be && !self.record.high_priority
     }
 
-    // The SMF that has the session elsewhere: by the session, or else by the DNN that the message names.
+    // The SMF that has the session elsewhere: by the session, or else by the DNN that is named.
     #[tactic(auto, unfolding(crate::specs::Rules::known_smf))]
     pub(crate) fn known_smf(&self) -> Option<SmfId>
         ensures { result ≡ known_smf (asked self.now) }

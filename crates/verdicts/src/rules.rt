@@ -4,7 +4,7 @@ ghost use Rattle.control.specs.Lines.{back_off_of};
 ghost use Rattle.records.specs.Firsts.{known_dnn};
 ghost use Rattle.records.specs.Records.{plain};
 ghost use Rattle.verdicts.specs.declared.decision.Decision.TheVariants.{Forward, Return};
-ghost use Rattle.verdicts.specs.Cases.{asked};
+ghost use Rattle.verdicts.specs.Cases.{asked, posed};
 ghost use Rattle.verdicts.specs.Rulings.{only, settled};
 ghost use Rattle.verdicts.specs.Rules.{awaits_with_emergency, control_cause, congestion, at_limit, barred, objection, established, kept_emergency, emergency_smf_of, or_choice, route, ruling_with};
 
@@ -16,7 +16,8 @@ use codes::{Cause, RequestType, SliceDnn, SmfId};
 use control::{ControlKey, ControlTable};
 use stores::{Context, PduSession, Store};
 
-// Whether it is an initial request of a UE that awaits a mobility registration and has an emergency context.
+// Whether it is an initial request of a UE that awaits a mobility registration and has an emergency
+// context.
 #[tactic(auto, unfolding(crate::specs::Rules::awaits_with_emergency))]
 fn awaits_with_emergency<S: Store>(
     inquiry: &Inquiry<'_>,
@@ -32,7 +33,8 @@ fn awaits_with_emergency<S: Store>(
     context.is_some_and(|context| context.emergency) || other.is_some()
 }
 
-// The cause of a control line for the DNN, or else for the slice and the DNN, or else for the slice.
+// The cause of a control line for the DNN, or else for the slice and the DNN, or else for the
+// slice.
 fn control_cause(controls: &ControlTable<'_>, used: SliceDnn) -> Option<Cause>
     ensures { result ≡ control_cause (back_off_of controls.now) used }
 {
@@ -58,7 +60,8 @@ fn congestion(inquiry: &Inquiry<'_>, controls: &ControlTable<'_>, used: SliceDnn
     control_cause(controls, used)
 }
 
-// Whether the request is initial or existing, and the UE has as many other contexts as it may have sessions.
+// Whether the request is initial or existing, and the UE has as many other contexts as it may have
+// sessions.
 #[tactic(auto, unfolding(crate::specs::Rules::at_limit))]
 fn is_at_limit<S: Store>(inquiry: &Inquiry<'_>, store: &S) -> bool
     ensures { result ≡ at_limit (asked inquiry.now) (S.Store.contexts store.now) }
@@ -91,7 +94,8 @@ fn objection<S: Store>(
     context: Option<Context>,
     used: SliceDnn,
 ) -> Option<Cause>
-    ensures { result ≡ objection (asked inquiry.now) (S.Store.contexts store.now) (back_off_of controls.now) context used }
+    ensures { let c = posed inquiry.now (S.Store.contexts store.now) controls.now in
+        result ≡ objection c.asked c.contexts c.back_off context used }
 {
     if awaits_with_emergency(inquiry, store, context) {
         return Some(Cause::NotForwarded);
@@ -213,7 +217,8 @@ pub(crate) fn ruling<S: Store>(
     context: Option<Context>,
     used: SliceDnn,
 ) -> Ruling
-    ensures { result ≡ ruling_with (asked inquiry.now) (S.Store.contexts store.now) (back_off_of controls.now) context used }
+    ensures { let c = posed inquiry.now (S.Store.contexts store.now) controls.now in
+        result ≡ ruling_with c.asked c.contexts c.back_off context used }
 {
     match objection(inquiry, store, controls, context, used) {
         Some(cause) => returned(cause),

@@ -1,10 +1,11 @@
-// All that the rules say, before any directory is asked.
+// Rulings.
 ghost use Rattle.std.specs.Prelude.{◌≡◌};
 ghost use Rattle.verdicts.specs.Rulings.{only};
 
 use crate::outcome::Outcome;
 use codes::SmfId;
 
+/// All that the rules say, before any directory is asked.
 #[derive(Clone, Copy)]
 pub struct Ruling {
     pub outcome: Outcome,

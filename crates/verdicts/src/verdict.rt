@@ -1,4 +1,4 @@
-// The verdict on a payload.
+// Verdicts.
 ghost use Rattle.std.specs.Prelude.{◌≡◌};
 ghost use Rattle.verdicts.specs.Verdicts.{context_of};
 
@@ -6,6 +6,7 @@ use crate::decision::Decision;
 use codes::{SliceDnn, SmfId};
 use stores::{Context, PduSession};
 
+/// The verdict on a payload.
 #[derive(Clone, Copy, Debug, PartialEq, Eq)]
 pub struct Verdict {
     /// The slice and the DNN that it goes by.
@@ -16,7 +17,7 @@ pub struct Verdict {
 }
 
 impl Verdict {
-    // The context that is to be put for the session.
+    /// The context that is to be put for the session, where one is.
     pub fn context(&self, session: PduSession) -> Option<Context>
         ensures { result ≡ context_of self.now session.ue session.id }
     {
