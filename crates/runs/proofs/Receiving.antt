@@ -5,12 +5,13 @@ use Rattle.std.proofs.lemmas.Bool.{false≢true, not-true, eqb-true}
 use Rattle.directories.specs.Choices.{Serving}
 use Rattle.records.specs.Records.{record_fits}
 use Rattle.accounts.specs.Receives as given
-use Rattle.accounts.specs.Receives.{Core, State, Opening, Received, Answer, admitted, received, case_on, verdict_on, answer_to, pool_length, most_flights, last_number, return_overhead}
+use Rattle.accounts.specs.Receives.{Core, State, Opening, Received, Answer, admitted, received, case_on, verdict_on, answer_to, pool_length, most_flights, last_number}
 use Rattle.accounts.specs.Accounts.{contexts_in}
 use Rattle.flights.specs.Slots.{is_for}
 use Rattle.nas.specs.Uplinks.{Message, then, read}
 use Rattle.nas.proofs.Accepted.{then_ok, if_ok}
 use Rattle.nas.proofs.Bounds.{payload_few}
+use Rattle.nas.specs.Returns.{return_overhead}
 use Rattle.stores.specs.declared.context.Context.{Context}
 use Rattle.stores.specs.Contexts.{lookup}
 use Rattle.verdicts.specs.declared.decision.Decision.{Decision}
