@@ -1,5 +1,5 @@
 -- The account's contexts and payloads, told by the places in the list of calls.
-use Rattle.std.proofs.Common.{◌≡◌, ℕ, Bool, true, false, not, ◌&&◌, cond, eqb, ◌↔◌, List, [], ◌∷◌, map, is_some, Some, None, Ok, Err, Option, Result, option_map, nat_le, ◌==◌, ◌+◌, sym, refl, ap, ◌∙◌, subst, inl, inr, ⊎_elim, arith}
+use Rattle.std.proofs.Common.{◌≡◌, ℕ, Bool, true, false, not, ◌&&◌, cond, eqb, ◌↔◌, List, [], ◌∷◌, map, is_some, Some, None, Ok, Option, Result, option_map, nat_le, ◌==◌, ◌+◌, sym, refl, ap, ◌∙◌, subst, inl, inr, ⊎_elim, arith}
 use Rattle.std.specs.List.{filter}
 use Rattle.std.proofs.lemmas.Bool.{and_from, and_parts, eqb-true, eqb-false, eq-eqb, ne_eqb, not-true, not_from_false, false_from_ne_true, false≢true}
 use Rattle.codes.specs.declared.cause.Cause.TheVariants.{NotForwarded}
