@@ -53,6 +53,7 @@ pool_length = 32768
 abbrev pub most_flights : ℕ
 most_flights = 16
 
+-- the last ticket number
 abbrev pub last_number : ℕ
 last_number = 4294967295
 

@@ -528,18 +528,15 @@ steps o (taken t (Ok a)) es m n i s =
     let g = opened_flight (flight m t) (λ f. Ok tt) a s.answer in
     let h = held_is t.number (at m.flights t.slot) g.0 g.1 in
     takes o (account_of o es) m n t.slot t.number g.0 h.0 h.1 s.does i
-steps o (taken t (Err e)) es m n i s = kept o (account_of o es) m n s.does i
 steps o (failed pool output t (Ok a)) es m n i s =
     let g = opened_flight (flight m t) (λ f. passing (nat_le (f.length + 13) output) OutputLength (Ok (undelivered m t f))) a (passed (eqb pool pool_length) PoolLength _ a s.answer) in
     let h = held_is t.number (at m.flights t.slot) g.0 g.1 in
     fails o (account_of o es) m n t.slot t.number g.0 h.0 h.1 (s.does g.0 g.1) i
-steps o (failed pool output t (Err e)) es m n i s = kept o (account_of o es) m n s.does i
 steps o (park t (Ok a)) es m n i s = remarks o (account_of o es) m n Parked t.slot s.does i
-steps o (park t (Err e)) es m n i s = kept o (account_of o es) m n s.does i
 steps o (pick number (Ok t)) es m n i s = remarks o (account_of o es) m n InHand t.slot (s.does t refl) i
-steps o (pick number (Err e)) es m n i s = kept o (account_of o es) m n s.does i
 steps o (released u k (Ok a)) es m n i s = releases o (account_of o es) m n u k s.does i
-steps o (released u k (Err e)) es m n i s = kept o (account_of o es) m n s.does i
+-- a call that was refused
+steps o e es m n i s = kept o (account_of o es) m n s.does i
 
 -- ---- each payload in flight is a flight
 

@@ -1,12 +1,12 @@
 -- What a list of calls says of a context that was established in it.
-use Rattle.std.proofs.Common.{◌≡◌, ℕ, false, ◌⊎◌, List, [], ◌∷◌, ◌++◌, Some, Ok, Err, Option, sym, refl, ap, ◌∙◌, subst, inl, inr}
+use Rattle.std.proofs.Common.{◌≡◌, ℕ, false, ◌⊎◌, List, [], ◌∷◌, ◌++◌, Some, Ok, Option, sym, refl, ap, ◌∙◌, subst, inl, inr}
 use Rattle.std.specs.List.{list_any}
 use Rattle.std.proofs.lemmas.Bool.{or_parts, or_from}
 use Rattle.accounts.specs.Receives.{Received, Answer}
 use Rattle.nas.specs.Uplinks.{Message, read}
 use Rattle.stores.specs.declared.context.Context.{Context}
 use Rattle.verdicts.specs.Verdicts.{smf_of, context_of}
-use Rattle.runs.specs.Entries.{Entry, receive, payload, taken, failed, park, pick, released}
+use Rattle.runs.specs.Entries.{Entry, receive}
 use Rattle.runs.specs.Models.{Token}
 use Rattle.runs.specs.Positions.{Established, ends}
 
@@ -18,13 +18,7 @@ By es n c = (e : Established es c) × (e.answer.number ≡ n)
 abbrev pub Now : Entry → ℕ → Context → Type 0
 Now (receive r chosen ticket (Ok a)) n c =
     (x : Message) × (read r.octets ≡ Ok x) × (context_of a.verdict r.ue.number x.session ≡ Some c) × (a.number ≡ n)
-Now (receive r chosen ticket (Err e)) n c = ⊥
-Now (payload pool t a) n c = ⊥
-Now (taken t a) n c = ⊥
-Now (failed pool output t a) n c = ⊥
-Now (park t a) n c = ⊥
-Now (pick number a) n c = ⊥
-Now (released u k a) n c = ⊥
+Now e n c = ⊥
 
 -- this call does not end it
 abbrev pub Spares : Entry → ℕ → Context → Type 0

@@ -1,5 +1,5 @@
 -- The account's contexts and payloads, told by the places in the list of calls.
-use Rattle.std.proofs.Common.{◌≡◌, ℕ, Bool, true, false, not, ◌&&◌, cond, eqb, ◌↔◌, List, [], ◌∷◌, map, is_some, Some, None, Ok, Err, Option, Result, option_map, nat_le, ◌==◌, ◌+◌, sym, refl, ap, ◌∙◌, subst, inl, inr, ⊎_elim, arith}
+use Rattle.std.proofs.Common.{◌≡◌, ℕ, Bool, true, false, not, ◌&&◌, cond, eqb, ◌↔◌, List, [], ◌∷◌, map, is_some, Some, None, Ok, Option, Result, option_map, nat_le, ◌==◌, ◌+◌, sym, refl, ap, ◌∙◌, subst, inl, inr, ⊎_elim, arith}
 use Rattle.std.specs.List.{filter}
 use Rattle.std.proofs.lemmas.Bool.{and_from, and_parts, eqb-true, eqb-false, eq-eqb, ne_eqb, not-true, not_from_false, false_from_ne_true, false≢true}
 use Rattle.codes.specs.declared.cause.Cause.TheVariants.{NotForwarded}
@@ -172,14 +172,11 @@ accepts o r chosen ticket a es (x, reads, is) t =
 
 pub tells : (o : Opening) (e : Entry) (es : List Entry) → Answered o e es → Told es (account_of o es) → Told (e ∷ es) (account_of o (e ∷ es))
 tells o (receive r chosen ticket (Ok a)) es h t = accepts o r chosen ticket a es h t
-tells o (receive r chosen ticket (Err x)) es h t = stays_told _ es (account_of o es) (λ r chosen ticket a e. cc) (λ n c j. j) (λ n c. refl) (λ n. refl) (λ n. refl) t
 tells o (payload pool u (Ok x)) es h t = stays_told _ es (account_of o es) (λ r chosen ticket a e. cc) (λ n c j. j) (λ n c. refl) (λ n. refl) (λ n. refl) t
-tells o (payload pool u (Err x)) es h t = stays_told _ es (account_of o es) (λ r chosen ticket a e. cc) (λ n c j. j) (λ n c. refl) (λ n. refl) (λ n. refl) t
 tells o (taken u (Ok x)) es h t = record {
   listed = passes (taken u (Ok x)) es (account_of o es).contexts (λ n c j. j) (λ n c. refl) t.listed;
   paid = taken_one u x es (account_of o es).payloads t.paid;
 }
-tells o (taken u (Err x)) es h t = stays_told _ es (account_of o es) (λ r chosen ticket a e. cc) (λ n c j. j) (λ n c. refl) (λ n. refl) (λ n. refl) t
 tells o (failed pool output u (Ok x)) es h t = record {
   listed = keeps (failed pool output u (Ok x)) es (account_of o es).contexts (λ y. not (eqb y.number u.number)) (λ n c j. j) (λ y p. other u.number y.number (not-true _ p)) (λ y s. not_from_false _ (other y.number u.number s)) t.listed;
   paid = failed_one pool output u x es (account_of o es).payloads t.paid;
@@ -187,16 +184,14 @@ tells o (failed pool output u (Ok x)) es h t = record {
   where
     other : (j k : ℕ) → eqb k j ≡ false → eqb j k ≡ false
     other j k e = ne_eqb j k (λ q. eqb-false k j e (sym q))
-tells o (failed pool output u (Err x)) es h t = stays_told _ es (account_of o es) (λ r chosen ticket a e. cc) (λ n c j. j) (λ n c. refl) (λ n. refl) (λ n. refl) t
 tells o (park u (Ok x)) es h t = stays_told _ es (account_of o es) (λ r chosen ticket a e. cc) (λ n c j. j) (λ n c. refl) (λ n. refl) (λ n. refl) t
-tells o (park u (Err x)) es h t = stays_told _ es (account_of o es) (λ r chosen ticket a e. cc) (λ n c j. j) (λ n c. refl) (λ n. refl) (λ n. refl) t
 tells o (pick number (Ok x)) es h t = stays_told _ es (account_of o es) (λ r chosen ticket a e. cc) (λ n c j. j) (λ n c. refl) (λ n. refl) (λ n. refl) t
-tells o (pick number (Err x)) es h t = stays_told _ es (account_of o es) (λ r chosen ticket a e. cc) (λ n c j. j) (λ n c. refl) (λ n. refl) (λ n. refl) t
 tells o (released u k (Ok x)) es h t = record {
   listed = keeps (released u k (Ok x)) es (account_of o es).contexts (λ y. not (is_of u k y.context)) (λ n c j. j) (λ y p. turned_false y.context.ue u y.context.session k (not-true _ p)) (λ y s. not_from_false _ (turned_false u y.context.ue k y.context.session s)) t.listed;
   paid = unmoved (released u k (Ok x)) es (account_of o es).payloads (λ r chosen ticket a e. cc) (λ n. refl) (λ n. refl) t.paid;
 }
-tells o (released u k (Err x)) es h t = stays_told _ es (account_of o es) (λ r chosen ticket a e. cc) (λ n c j. j) (λ n c. refl) (λ n. refl) (λ n. refl) t
+-- a call that was refused
+tells o e es h t = stays_told e es (account_of o es) (λ r chosen ticket a q. cc) (λ n c j. j) (λ n c. refl) (λ n. refl) (λ n. refl) t
 
 -- ---- the set of contexts, by places
 
@@ -237,26 +232,20 @@ same_octets xs ys e = cc
 pub faithful : (o : Opening) (e : Entry) (es : List Entry) (m n : Model) → Invariant o (account_of o es) m → Told es (account_of o es) → Step m e n → Faithful o e es
 faithful o (receive r chosen ticket (Ok a)) es m n i t s =
     receiving.faithful o es m r chosen ticket a n (receiving.done m r chosen ticket a n s.1)
-faithful o (receive r chosen ticket (Err x)) es m n i t s = tt
 faithful o (payload pool u (Ok x)) es m n i t s =
     let g = opened_flight (flight m u) (λ f. Ok (slot_octets m.pool u.slot f.length)) x (passed (pool == pool_length) PoolLength _ x s.answer) in
     let w = carried o es m i t u g.0 g.1 in
     (w.0, w.1, same_octets x (slot_octets m.pool u.slot g.0.length) g.2 ∙ w.2)
-faithful o (payload pool u (Err x)) es m n i t s = tt
 faithful o (taken u (Ok x)) es m n i t s =
     let g = opened_flight (flight m u) (λ f. Ok tt) x s.answer in
     let w = carried o es m i t u g.0 g.1 in
     (w.0, w.1)
-faithful o (taken u (Err x)) es m n i t s = tt
 faithful o (failed pool output u (Ok x)) es m n i t s =
     let g = opened_flight (flight m u) (λ f. passing (nat_le (f.length + 13) output) OutputLength (Ok (undelivered m u f))) x (passed (pool == pool_length) PoolLength _ x s.answer) in
     let w = carried o es m i t u g.0 g.1 in
     let same = same_octets x (undelivered m u g.0) (passed (nat_le (g.0.length + 13) output) OutputLength _ x g.2) in
     (w.0, w.1, same ∙ (λ j. returned (w.2 j) (w.3 j) NotForwarded), w.4 ∙ ap (λ (l : List ℕ). Some l) (sym same))
-faithful o (failed pool output u (Err x)) es m n i t s = tt
-faithful o (park u a) es m n i t s = tt
-faithful o (pick number a) es m n i t s = tt
-faithful o (released u k a) es m n i t s = tt
+faithful o e es m n i t s = tt
 
 -- ---- what became of each accepted receive
 

@@ -4,7 +4,7 @@ use Rattle.std.proofs.lemmas.List.Sums.{length-filter}
 use Rattle.accounts.specs.Receives.{Opening}
 use Rattle.accounts.specs.Accounts.{in_flight}
 use Rattle.runs.specs.Models.{Model}
-use Rattle.runs.specs.Entries.{Entry, receive, payload, taken, failed, park, pick, released, account_of}
+use Rattle.runs.specs.Entries.{Entry, receive, account_of}
 use Rattle.runs.specs.Positions.{Each}
 use Rattle.runs.specs.Runs.{Run, Step, opened, lent, step}
 use Rattle.runs.specs.Laws.{Extends, Answered, Chose, Faithful, Law}
@@ -18,25 +18,14 @@ use Rattle.runs.proofs.Told.{Told}
 answers : (o : Opening) (e : Entry) (es : List Entry) (m n : Model) → Invariant o (account_of o es) m → Step m e n → Answered o e es
 answers o (receive r chosen ticket (Ok a)) es m n i s =
     receiving.answered o es m r chosen ticket a n i.core i.next i.contexts (receiving.done m r chosen ticket a n s.1)
-answers o (receive r chosen ticket (Err x)) es m n i s = tt
-answers o (payload pool t a) es m n i s = tt
-answers o (taken t a) es m n i s = tt
-answers o (failed pool output t a) es m n i s = tt
-answers o (park t a) es m n i s = tt
-answers o (pick number a) es m n i s = tt
-answers o (released u k a) es m n i s = tt
+answers o e es m n i s = tt
 
 -- and what a directory chose for it
 chooses : (o : Opening) (e : Entry) (es : List Entry) (m n : Model) → Invariant o (account_of o es) m → Step m e n → Chose o e es
 chooses o (receive r chosen ticket (Ok a)) es m n i s =
     receiving.chose o es m r chosen ticket a n i.core i.next i.contexts (receiving.done m r chosen ticket a n s.1)
 chooses o (receive r chosen ticket (Err x)) es m n i s = (receiving.undone m r chosen ticket x n s.1).0
-chooses o (payload pool t a) es m n i s = tt
-chooses o (taken t a) es m n i s = tt
-chooses o (failed pool output t a) es m n i s = tt
-chooses o (park t a) es m n i s = tt
-chooses o (pick number a) es m n i s = tt
-chooses o (released u k a) es m n i s = tt
+chooses o e es m n i s = tt
 
 -- all that goes along a run
 record Along (o : Opening) (es : List Entry) (m : Model) : Type 0 where

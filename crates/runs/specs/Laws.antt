@@ -17,7 +17,7 @@ use Rattle.verdicts.specs.Rulings.{asks_directory}
 use Rattle.verdicts.specs.Rules.{ruling}
 use Rattle.verdicts.specs.Verdicts.{cause_of, smf_of}
 use Rattle.runs.specs.Models.{Model, Token, state, slot_octets}
-use Rattle.runs.specs.Entries.{Entry, receive, payload, taken, failed, park, pick, released, account_of}
+use Rattle.runs.specs.Entries.{Entry, receive, payload, taken, failed, account_of}
 use Rattle.runs.specs.Positions.{Each, ends_taken, ends_failed, Flying, Established}
 use Rattle.runs.specs.Runs.{Run}
 
@@ -43,13 +43,7 @@ InFlight flights n = (k : ℕ) × (f : Flight) × (at flights k ≡ Some f) × (
 abbrev pub Answered : Opening → Entry → List Entry → Type 0
 Answered o (receive r chosen ticket (Ok a)) earlier =
     (x : Message) × (read r.octets ≡ Ok x) × (a ≡ answer_to o.core (account_of o earlier).next (contexts_in (account_of o earlier)) r chosen x)
-Answered o (receive r chosen ticket (Err e)) earlier = Unit {0}
-Answered o (payload pool t a) earlier = Unit {0}
-Answered o (taken t a) earlier = Unit {0}
-Answered o (failed pool output t a) earlier = Unit {0}
-Answered o (park t a) earlier = Unit {0}
-Answered o (pick number a) earlier = Unit {0}
-Answered o (released u k a) earlier = Unit {0}
+Answered o e earlier = Unit {0}
 
 pub record Agrees (o : Opening) (es : List Entry) (m : Model) : Type 0 where
   pub next : m.next ≡ (account_of o es).next
@@ -97,18 +91,12 @@ pub record SendsBack (x : Message) (a : Answer) : Type 0 where
 abbrev pub Faithful : Opening → Entry → List Entry → Type 0
 Faithful o (receive r chosen ticket (Ok a)) earlier =
     (x : Message) × (read r.octets ≡ Ok x) × SendsBack x a
-Faithful o (receive r chosen ticket (Err e)) earlier = Unit {0}
 Faithful o (payload pool t (Ok octets)) earlier =
     (x : Message) × Flying earlier t.number x × (octets ≡ x.payload)
-Faithful o (payload pool t (Err e)) earlier = Unit {0}
 Faithful o (taken t (Ok y)) earlier = (x : Message) × Flying earlier t.number x
-Faithful o (taken t (Err e)) earlier = Unit {0}
 Faithful o (failed pool output t (Ok octets)) earlier =
     (x : Message) × Flying earlier t.number x × (octets ≡ returned x.payload x.session NotForwarded) × (failed_octets (account_of o earlier) t.number ≡ Some octets)
-Faithful o (failed pool output t (Err e)) earlier = Unit {0}
-Faithful o (park t a) earlier = Unit {0}
-Faithful o (pick number a) earlier = Unit {0}
-Faithful o (released u k a) earlier = Unit {0}
+Faithful o e earlier = Unit {0}
 
 -- ---- the directory's choices
 
@@ -128,12 +116,7 @@ abbrev pub Chose : Opening → Entry → List Entry → Type 0
 Chose o (receive r chosen ticket (Ok a)) earlier =
     (x : Message) × RightlyChosen o earlier r chosen a x
 Chose o (receive r chosen ticket (Err e)) earlier = chosen ≡ None
-Chose o (payload pool t a) earlier = Unit {0}
-Chose o (taken t a) earlier = Unit {0}
-Chose o (failed pool output t a) earlier = Unit {0}
-Chose o (park t a) earlier = Unit {0}
-Chose o (pick number a) earlier = Unit {0}
-Chose o (released u k a) earlier = Unit {0}
+Chose o e earlier = Unit {0}
 
 -- ---- all that holds of the calls es and of the state m that they end in
 

@@ -6,7 +6,7 @@ use Rattle.nas.specs.Uplinks.{Message, read}
 use Rattle.stores.specs.declared.context.Context.{Context}
 use Rattle.verdicts.specs.Verdicts.{smf_of, context_of}
 use Rattle.runs.specs.Models.{Token}
-use Rattle.runs.specs.Entries.{Entry, receive, payload, taken, failed, park, pick, released}
+use Rattle.runs.specs.Entries.{Entry, receive, taken, failed, released}
 
 -- P holds of each call and those before it
 abbrev pub Each : (Entry → List Entry → Type 0) → List Entry → Type 0
@@ -17,25 +17,13 @@ Each P (e ∷ es) = P e es × Each P es
 
 -- the call ends the flight of the payload of number n: it was taken,
 abbrev pub ends_taken : ℕ → Entry → Bool
-ends_taken n (receive r chosen ticket a) = false
-ends_taken n (payload pool t a) = false
 ends_taken n (taken t (Ok x)) = t.number == n
-ends_taken n (taken t (Err e)) = false
-ends_taken n (failed pool output t a) = false
-ends_taken n (park t a) = false
-ends_taken n (pick number a) = false
-ends_taken n (released u k a) = false
+ends_taken n e = false
 
 -- or it failed
 abbrev pub ends_failed : ℕ → Entry → Bool
-ends_failed n (receive r chosen ticket a) = false
-ends_failed n (payload pool t a) = false
-ends_failed n (taken t a) = false
 ends_failed n (failed pool output t (Ok octets)) = t.number == n
-ends_failed n (failed pool output t (Err e)) = false
-ends_failed n (park t a) = false
-ends_failed n (pick number a) = false
-ends_failed n (released u k a) = false
+ends_failed n e = false
 
 -- the message x was accepted under number n and forwarded, and has neither been taken nor failed since
 pub record Flying (es : List Entry) (n : ℕ) (x : Message) : Type 0 where
@@ -64,14 +52,9 @@ is_session k (Err e) = false
 abbrev pub ends : ℕ → ℕ → ℕ → Entry → Bool
 ends n u k (receive r chosen ticket (Ok a)) =
     is_some a.verdict.release && (r.ue.number == u && is_session k (read r.octets))
-ends n u k (receive r chosen ticket (Err e)) = false
-ends n u k (payload pool t a) = false
-ends n u k (taken t a) = false
 ends n u k (failed pool output t a) = ends_failed n (failed pool output t a)
-ends n u k (park t a) = false
-ends n u k (pick number a) = false
 ends n u k (released v j (Ok x)) = v == u && j == k
-ends n u k (released v j (Err e)) = false
+ends n u k e = false
 
 -- a payload that establishes the context c was accepted, for the SMF that c names, and no later call ends that
 pub record Established (es : List Entry) (c : Context) : Type 0 where
