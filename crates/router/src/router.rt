@@ -54,6 +54,20 @@ impl<S: Store> Router<S> {
         self.store.find(session)
     }
 
+    /// Gives the store back as it was. Flights that still stand are let go.
+    pub fn into_store(self) -> S
+        ensures { result ≡ self.store }
+    {
+        let Router {
+            store,
+            book: _,
+            configuration: _,
+            flights: _,
+            next: _,
+        } = self;
+        store
+    }
+
     // ---- the calls, with the law over all runs
 
     // A router over an empty store, which it alone writes from now on. The book is copied.
