@@ -24,20 +24,21 @@ fn choose_pool<'p>(pool: &'p [u8], other: &'p [u8]) -> &'p [u8] {
 }
 
 // It has no `Drop`, as a ticket has none: `end` gives the tickets back.
-pub struct Host<'a, S: Store> {
-    router: Router<'a, S>,
+pub struct Host<S: Store> {
+    router: Router<S>,
     tickets: Tickets,
     pool: Vec<u8>,
     // each ticket is open in the router, and no two are of one slot
     ghost held: { all_open (model router []).flights tickets.held.items ≡ true },
 }
 
-impl<'a, S: Store> Host<'a, S> {
+impl<S: Store + Drop> Host<S> {
     ghost use Rattle.std.specs.Prelude.{IfOk};
-    ghost use Rattle.hosts.specs.Holdings.{Fresh, Shrinks};
 
-    // A host that holds no tickets.
-    pub fn new(heap: Global, router: Router<'a, S>) -> Result<Host<'a, S>, AllocError> {
+    /// A host of this router that holds no tickets yet. Where there is no memory for the pool, the router is let go.
+    pub fn new(heap: Global, router: Router<S>) -> Result<Host<S>, AllocError>
+        ensures { IfOk result (λ h. (h.router ≡ router) × (h.tickets.held.items ≡ [])) }
+    {
         let pool = vec![in heap; 0; POOL_LENGTH]?;
         Ok(Host {
             router,
@@ -45,6 +46,11 @@ impl<'a, S: Store> Host<'a, S> {
             pool,
         })
     }
+}
+
+impl<S: Store> Host<S> {
+    ghost use Rattle.std.specs.Prelude.{IfOk};
+    ghost use Rattle.hosts.specs.Holdings.{Fresh, Shrinks, KeepsStore, IsStoreOf};
 
     // What the router answers to a message, with a pool of this length.
     fn ask<D: Directory>(
@@ -198,7 +204,8 @@ impl<'a, S: Store> Host<'a, S> {
 
     // Parks the last ticket; false where there is none.
     fn park_last(&mut self) -> bool
-        ensures { Shrinks result self.old.tickets.held.items self.new.tickets.held.items }
+        ensures tickets { Shrinks result self.old.tickets.held.items self.new.tickets.held.items }
+        ensures store { KeepsStore (model self.old.router []) (model self.new.router []) }
     {
         let Some(ticket) = self.tickets.take_last() else {
             return false;
@@ -210,14 +217,17 @@ impl<'a, S: Store> Host<'a, S> {
         }
     }
 
-    // Gives up the router, which is not asked again, with all that was held for it: every ticket is parked.
-    pub fn end(mut self) {
+    /// Parks every ticket that is held, lets the router go, and gives its store back as it was.
+    pub fn end(mut self) -> S
+        ensures { IsStoreOf self.router result }
+    {
         while self.park_last() {}
         let Host {
-            router: _,
+            router,
             tickets,
             pool: _,
         } = self;
         tickets.end();
+        router.into_store()
     }
 }
