@@ -23,7 +23,8 @@ fn choose_pool<'p>(pool: &'p [u8], other: &'p [u8]) -> &'p [u8] {
     }
 }
 
-// It has no `Drop`, as a ticket has none: `end` gives the tickets back.
+/// A router, the tickets that its host holds, and the pool that it lends: 32,768 octets, the same ones from
+/// call to call. It has no `Drop`, as a ticket has none: `end` gives the tickets back.
 pub struct Host<S: Store> {
     router: Router<S>,
     tickets: Tickets,
@@ -35,7 +36,8 @@ pub struct Host<S: Store> {
 impl<S: Store + Drop> Host<S> {
     ghost use Rattle.std.specs.Prelude.{IfOk};
 
-    /// A host of this router that holds no tickets yet. Where there is no memory for the pool, the router is let go.
+    /// A host of this router that holds no tickets yet. Where there is no memory for the pool, the router is
+    /// let go.
     pub fn new(heap: Global, router: Router<S>) -> Result<Host<S>, AllocError>
         ensures { IfOk result (λ h. (h.router ≡ router) × (h.tickets.held.items ≡ [])) }
     {
@@ -64,7 +66,10 @@ impl<S: Store> Host<S> {
         message: &[u8],
     ) -> Result<Answer, SetupError>
         ensures tickets { self.new.tickets ≡ self.old.tickets }
-        ensures given { IfOk result (λ a. Fresh (model self.new.router []).flights self.new.tickets.held.items a.delivery) }
+        ensures given {
+            IfOk result (λ a.
+                Fresh (model self.new.router []).flights self.new.tickets.held.items a.delivery)
+        }
     {
         if pool == POOL_LENGTH {
             let pool = self.pool.as_mut_slice();
@@ -81,7 +86,8 @@ impl<S: Store> Host<S> {
         )
     }
 
-    // Hands the router a message of a UE, and holds the ticket that it gives.
+    /// Hands the router a message of a UE, with buffers of these lengths, and holds the ticket that it gives.
+    /// It is refused as the router refuses it.
     pub fn receive<D: Directory>(
         &mut self,
         heap: Global,
@@ -125,7 +131,8 @@ impl<S: Store> Host<S> {
         })
     }
 
-    // The octets of the payload of this number.
+    /// The octets of the payload of this number. It is refused where no ticket of it is held, and where a pool
+    /// has another length.
     pub fn payload(&self, heap: Global, number: u32, pool: usize) -> Result<Vec<u8>, SetupError> {
         let other = vec![in heap; 0; pool]?;
         let ticket = self.tickets.find(number).ok_or(Refusal::UnknownTicket)?;
@@ -134,7 +141,7 @@ impl<S: Store> Host<S> {
         Ok(octets.to_vec(heap)?)
     }
 
-    // An SMF took the payload of this number.
+    /// An SMF took the payload of this number. It is refused where no ticket of it is held.
     pub fn taken(&mut self, number: u32) -> Result<(), Refusal> {
         let Some(ticket) = self.tickets.take(number) else {
             return Err(Refusal::UnknownTicket);
@@ -146,7 +153,8 @@ impl<S: Store> Host<S> {
         }
     }
 
-    // The SMF did not take the payload of this number: the message that goes back to the UE.
+    /// The SMF did not take the payload of this number: the message that goes back to the UE. Where it is
+    /// refused for the sake of the buffers, the ticket is still held.
     pub fn failed(
         &mut self,
         heap: Global,
@@ -172,7 +180,7 @@ impl<S: Store> Host<S> {
         }
     }
 
-    // Exchanges the ticket of this number for its number.
+    /// Exchanges the ticket of this number for its number. It is refused where no ticket of it is held.
     pub fn park(&mut self, number: u32) -> Result<u32, Refusal> {
         let Some(ticket) = self.tickets.take(number) else {
             return Err(Refusal::UnknownTicket);
@@ -184,7 +192,7 @@ impl<S: Store> Host<S> {
         }
     }
 
-    // Holds the parked ticket of this number again.
+    /// Holds the parked ticket of this number again. It is refused where none is parked under it.
     pub fn pick(&mut self, number: u32) -> Result<(), SetupError> {
         self.tickets.reserve()?;
         let ticket = self.router.pick(number)?;
@@ -192,12 +200,12 @@ impl<S: Store> Host<S> {
         Ok(())
     }
 
-    // The SMF released the session.
+    /// The SMF released the session: its context is gone. It is refused where there is none.
     pub fn released(&mut self, session: PduSession) -> Result<(), Refusal> {
         self.router.released(session)
     }
 
-    // The context of the session.
+    /// The context of the session, if it has one.
     pub fn context(&self, session: PduSession) -> Option<Context> {
         self.router.context(session)
     }
