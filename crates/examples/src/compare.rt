@@ -38,7 +38,8 @@ fn back_stays(after: &[u8], before: &[u8], end: usize) -> bool {
     part == earlier
 }
 
-// Whether one slot of the pool begins with the payload, and all else in the pool is what it was. Which slot is for the router to say.
+// Whether one slot of the pool begins with the payload, and all else in the pool is what it was. Which
+// slot is for the router to say.
 pub(crate) fn one_slot_is(after: &[u8], before: &[u8], payload: &[u8]) -> bool {
     (0..16).any(|slot| {
         let start = SLOT_LENGTH * slot;

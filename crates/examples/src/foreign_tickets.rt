@@ -35,11 +35,11 @@ const OTHER: Example = Example {
     ..EXAMPLE
 };
 
-fn run<S: Store>(
+fn run<S: Store + Drop>(
     tally: &mut Tally<'_>,
     heap: Global,
-    store: &mut S,
-    other_store: &mut S,
+    store: S,
+    other_store: S,
 ) -> Result<(), SetupError> {
     let mut rows = [ControlRow::free(); 1];
     let mut other_rows = [ControlRow::free(); 1];
@@ -64,18 +64,18 @@ fn run_over_flat(tally: &mut Tally<'_>, heap: Global) -> Result<(), SetupError> 
     tally.begin(BETWEEN.name, "flat store");
     let mut rows = [ContextRow::free(); 16];
     let mut other_rows = [ContextRow::free(); 16];
-    let Ok(mut store) = FlatStore::new(&mut rows) else {
+    let Ok(store) = FlatStore::new(&mut rows) else {
         return Err(Refusal::Opening.into());
     };
-    let Ok(mut other_store) = FlatStore::new(&mut other_rows) else {
+    let Ok(other_store) = FlatStore::new(&mut other_rows) else {
         return Err(Refusal::Opening.into());
     };
-    run(tally, heap, &mut store, &mut other_store)
+    run(tally, heap, store, other_store)
 }
 
 fn run_over_grid(tally: &mut Tally<'_>, heap: Global) -> Result<(), SetupError> {
     tally.begin(BETWEEN.name, "grid store");
-    run(tally, heap, &mut GridStore::new(), &mut GridStore::new())
+    run(tally, heap, GridStore::new(), GridStore::new())
 }
 
 pub(crate) fn run_foreign_tickets(tally: &mut Tally<'_>, heap: Global) -> anyhow::Result<()> {

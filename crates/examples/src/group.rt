@@ -31,10 +31,10 @@ fn turning(
     Ok(directory)
 }
 
-fn run<S: Store>(
+fn run<S: Store + Drop>(
     tally: &mut Tally<'_>,
     heap: Global,
-    store: &mut S,
+    store: S,
     example: &Example,
 ) -> Result<(), SetupError> {
     let mut rows = [ControlRow::free(); 3];
@@ -53,15 +53,15 @@ fn run<S: Store>(
 fn run_over_flat(tally: &mut Tally<'_>, heap: Global, example: &Example) -> Result<(), SetupError> {
     tally.begin(example.name, "flat store");
     let mut rows = [ContextRow::free(); 16];
-    let Ok(mut store) = FlatStore::new(&mut rows) else {
+    let Ok(store) = FlatStore::new(&mut rows) else {
         return Err(Refusal::Opening.into());
     };
-    run(tally, heap, &mut store, example)
+    run(tally, heap, store, example)
 }
 
 fn run_over_grid(tally: &mut Tally<'_>, heap: Global, example: &Example) -> Result<(), SetupError> {
     tally.begin(example.name, "grid store");
-    run(tally, heap, &mut GridStore::new(), example)
+    run(tally, heap, GridStore::new(), example)
 }
 
 fn run_group(tally: &mut Tally<'_>, heap: Global, group: &Group) -> Result<(), SetupError> {

@@ -18,17 +18,17 @@ use stores::Store;
 #[derive(Drop)]
 pub(crate) struct Host<'a, S: Store> {
     heap: Global,
-    router: Router<'a, S>,
+    router: Router<S>,
     controls: ControlTable<'a>,
     pool: Vec<u8>,
     output: Vec<u8>,
 }
 
-impl<'a, S: Store> Host<'a, S> {
+impl<'a, S: Store + Drop> Host<'a, S> {
     pub(crate) fn open(
         heap: Global,
         example: &Example,
-        store: &'a mut S,
+        store: S,
         mut controls: ControlTable<'a>,
     ) -> Result<Host<'a, S>, SetupError> {
         for (numbers, back_off) in example.controls {
@@ -46,7 +46,9 @@ impl<'a, S: Store> Host<'a, S> {
             output,
         })
     }
+}
 
+impl<'a, S: Store> Host<'a, S> {
     // What is asked, compared with what has to be answered.
     fn take_step<D: Directory>(
         &mut self,

@@ -7,7 +7,8 @@ pub(crate) enum Message {
     Octets(&'static [u8]),
     /// An initial request of session 1, whose length octets claim so many octets of payload, with so many.
     Payload { claimed: u16, carried: u16 },
-    /// Session 1 with a payload of one octet, and an element of this kind with so many octets of contents, which its length octet tells.
+    /// Session 1 with a payload of one octet, and an element of this kind with so many octets of
+    /// contents, which its length octet tells.
     Element { kind: u8, length: u8 },
 }
 

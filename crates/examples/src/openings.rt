@@ -8,7 +8,7 @@ use flat::{ContextRow, FlatStore};
 use grid::GridStore;
 use names::Book;
 use records::Configuration;
-use router::Router;
+use router::{Router, Unopened};
 use std::alloc::Global;
 use stores::Store;
 
@@ -124,12 +124,13 @@ const OPENINGS: [Opening; 10] = [
     },
 ];
 
+// What came of an opening, and the store as it is behind it.
 fn open<S: Store>(
     heap: Global,
     book: &Book,
-    store: &mut S,
+    store: S,
     opening: Opening,
-) -> Result<(), SetupError> {
+) -> (Result<(), SetupError>, S) {
     let configuration = Configuration {
         default: SliceDnn {
             dnn: opening.default_dnn,
@@ -141,14 +142,16 @@ fn open<S: Store>(
         },
         ..CONFIGURATION
     };
-    let _router = Router::open(heap, book, configuration, opening.first, store)?;
-    Ok(())
+    match Router::open(heap, book, configuration, opening.first, store) {
+        Ok(router) => (Ok(()), router.into_store()),
+        Err(Unopened { error, store }) => (Err(error), store),
+    }
 }
 
-fn compare_routers<S: Store>(
+fn compare_routers<S: Store + Drop>(
     tally: &mut Tally<'_>,
     heap: Global,
-    store: &mut S,
+    mut store: S,
 ) -> Result<(), SetupError> {
     let book = Book::new(heap, &NAMES)?;
     for opening in OPENINGS {
@@ -156,10 +159,11 @@ fn compare_routers<S: Store>(
         if opening.stands {
             let _ = store.put(SESSION_1);
         }
-        let refusal = refusal_in(open(heap, &book, store, opening));
+        let (opened, left) = open(heap, &book, store, opening);
+        store = left;
         tally.compare(
             "opening a router",
-            refusal == opening.is_refused.then_some(16),
+            refusal_in(opened) == opening.is_refused.then_some(16),
         );
         tally.compare(
             "the store after an opening",
@@ -253,11 +257,11 @@ fn compare_turning(tally: &mut Tally<'_>, heap: Global) {
 fn compare_all(tally: &mut Tally<'_>, heap: Global) -> Result<(), SetupError> {
     tally.begin("routers", "flat store");
     let mut rows = [ContextRow::free(); 16];
-    if let Ok(mut store) = FlatStore::new(&mut rows) {
-        compare_routers(tally, heap, &mut store)?;
+    if let Ok(store) = FlatStore::new(&mut rows) {
+        compare_routers(tally, heap, store)?;
     }
     tally.begin("routers", "grid store");
-    compare_routers(tally, heap, &mut GridStore::new())?;
+    compare_routers(tally, heap, GridStore::new())?;
     tally.begin("books", "no store");
     compare_books(tally, heap);
     tally.begin("rows", "no store");

@@ -1,5 +1,5 @@
-// What a receive refuses of the octets of a message, and the messages beside that which it accepts. They are numbered from 1 by those
-// that are accepted alone.
+// What a receive refuses of the octets of a message, and the messages beside that which it accepts. They
+// are numbered from 1 by those that are accepted alone.
 use crate::example::{Example, Group, Step};
 use crate::message::Message;
 use crate::small_core::*;
@@ -27,7 +27,8 @@ const EXTENTS: Example = Example {
             ],
             3,
         ),
-        // Seven octets are enough, and the payload may end with the message: it is the session that they lack.
+        // Seven octets are enough, and the payload may end with the message: it is the session that they
+        // lack.
         Step::RefuseAll(
             &[
                 Message::Octets(b"\x7E\x00\x67\x01\x00\x01\x2E"),
@@ -324,7 +325,8 @@ const FAULT_ORDER: Example = Example {
         ),
         Step::RefuseAll(
             &[ // one element that runs past the end and cannot be so long
-                Message::Octets(b"\x7E\x00\x67\x01\x00\x04\x2E\x01\x01\xC1\x12\x01\x22\x03\x01"), // the overrun comes first, and no session does
+                // the overrun comes first, and no session does
+                Message::Octets(b"\x7E\x00\x67\x01\x00\x04\x2E\x01\x01\xC1\x12\x01\x22\x03\x01"),
                 Message::Octets(b"\x7E\x00\x67\x01\x00\x04\x2E\x01\x01\xC1\x25\x05\x04"),
             ],
             3,

@@ -1,5 +1,5 @@
-// What a receive refuses for the sake of the UE record, the buffers, the flights, the store and the ticket numbers, and what it accepts
-// beside that.
+// What a receive refuses for the sake of the UE record, the buffers, the flights, the store and the
+// ticket numbers, and what it accepts beside that.
 use crate::example::{End, Example, Failing, Group, Reply, Sending, Step, Stores};
 use crate::message::Message;
 use crate::small_core::*;

@@ -6,7 +6,7 @@ use codes::{HandedBack, Refusal};
 use router::{Router, Ticket};
 use stores::Store;
 
-pub(crate) fn take<S: Store>(router: &mut Router<'_, S>, ticket: Ticket)
+pub(crate) fn take<S: Store>(router: &mut Router<S>, ticket: Ticket)
     requires { IsOpen router.old ticket }
 {
     match router.taken(ticket) {
@@ -15,7 +15,7 @@ pub(crate) fn take<S: Store>(router: &mut Router<'_, S>, ticket: Ticket)
     }
 }
 
-pub(crate) fn park<S: Store>(router: &mut Router<'_, S>, ticket: Ticket) -> u32
+pub(crate) fn park<S: Store>(router: &mut Router<S>, ticket: Ticket) -> u32
     requires { IsOpen router.old ticket }
 {
     match router.park(ticket) {
@@ -25,7 +25,7 @@ pub(crate) fn park<S: Store>(router: &mut Router<'_, S>, ticket: Ticket) -> u32
 }
 
 // The ticket of a parked number, which is open again.
-pub(crate) fn pick<S: Store>(router: &mut Router<'_, S>, number: u32) -> Result<Ticket, Refusal>
+pub(crate) fn pick<S: Store>(router: &mut Router<S>, number: u32) -> Result<Ticket, Refusal>
     ensures { IfOk result (λ t. IsOpen router.new t) }
 {
     match router.pick(number) {
@@ -36,7 +36,7 @@ pub(crate) fn pick<S: Store>(router: &mut Router<'_, S>, number: u32) -> Result<
 
 // Where the buffers are at fault, the ticket is parked.
 pub(crate) fn fail<S: Store>(
-    router: &mut Router<'_, S>,
+    router: &mut Router<S>,
     pool: &[u8],
     output: &mut [u8],
     ticket: Ticket,

@@ -1,5 +1,5 @@
 -- What the pieces of a printed line make together.
-use Rattle.std.proofs.Common.{◌≡◌, ℕ, Some, codes, decimal, Option, refl, ◌∙◌}
+use Rattle.std.proofs.Common.{◌≡◌, ℕ, Some, codes, decimal, Option, ◌∙◌}
 use Rattle.std.specs.Option.{option_map}
 use Rattle.std.specs.Fmt.{option_append}
 use Rattle.codes.specs.RequestTypes.{request_number}

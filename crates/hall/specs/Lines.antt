@@ -9,7 +9,6 @@ use Rattle.control.specs.declared.control_row.ControlRow.{ControlRow}
 use Rattle.hall.specs.declared.directory.HallDirectory.{HallDirectory}
 use Rattle.hall.specs.Ends.{Outcome}
 use Rattle.hall.specs.declared.verb.Verb.TheVariants as verbs
-use Rattle.hall.specs.Calls.{Call}
 use Rattle.hall.specs.Commands.{Command, read, change, open_router, note, call, command_words}
 use Rattle.hall.specs.Effects.{OutcomeFor}
 use Rattle.hall.specs.Outcomes.{outcome_line, done_line}

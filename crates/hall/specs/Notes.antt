@@ -1,8 +1,6 @@
 -- What the words behind `ue`, `subscribe` and `know` put on record.
 use Rattle.std.specs.Prelude.{ℕ, Bool, true, false, cond, ◌&&◌, not, List, length, Some, None, codes, Option, ◌==◌, nat_lt, drop}
-use Rattle.std.specs.Option.{option_map}
 use Rattle.std.specs.Str.{bytes_eq}
-use Rattle.records.specs.declared.known_line.KnownLine.{KnownLine}
 use Rattle.records.specs.declared.subscription_line.SubscriptionLine.{SubscriptionLine}
 use Rattle.scenario.specs.Slice.{slice_in}
 use Rattle.hall.specs.declared.ue_note.UeMarks.{UeMarks}

@@ -1,8 +1,7 @@
 -- What is printed of what the router answers.
-use Rattle.std.specs.Prelude.{◌≡◌, ℕ, Bool, true, false, List, [], ◌++◌, cond, Some, None, codes, decimal, Option, vec_items}
+use Rattle.std.specs.Prelude.{◌≡◌, ℕ, Bool, List, ◌++◌, cond, Some, None, codes, decimal, Option, vec_items}
 use Rattle.std.specs.Option.{option_map}
 use Rattle.codes.specs.Causes.{cause_number}
-use Rattle.codes.specs.Refusals.{refusal_number}
 use Rattle.codes.specs.RequestTypes.{request_number}
 use Rattle.hosts.specs.declared.reply.Reply.{Reply}
 use Rattle.playing.specs.Lines.{or_dash, error_line}

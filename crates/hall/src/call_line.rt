@@ -55,7 +55,7 @@ fn context_line(heap: Global, context: Option<Context>) -> Result<String, AllocE
 // A message of a UE that is on record, by the directory that there is.
 fn receive<S: Store>(
     stage: &mut Stage<'_>,
-    host: &mut Host<'_, S>,
+    host: &mut Host<S>,
     reception: &Reception,
 ) -> Result<String, NotDone>
     ensures { IfOk result (λ s. (r : Reply) × (string_bytes s ≡ reply_text r)) }
@@ -80,7 +80,7 @@ fn receive<S: Store>(
 // Asks the router, and gives the line of an accepted call.
 pub(crate) fn call_line<S: Store>(
     stage: &mut Stage<'_>,
-    host: &mut Host<'_, S>,
+    host: &mut Host<S>,
     call: &Call,
 ) -> Result<String, NotDone>
     ensures { IfOk result (λ s. Replies (called call.now) (string_bytes s)) }

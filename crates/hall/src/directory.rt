@@ -14,8 +14,10 @@ pub(crate) enum HallDirectory {
 
 impl HallDirectory {
     pub(crate) fn add(&mut self, line: ServiceLine) -> Result<(), SetupError>
-        ensures lines { MatchResult result (λ _. MoreLines self.old line self.new) (λ _. SameLines self.old self.new) }
-        ensures refused { MatchResult result (λ _. refuses self.old line ≡ false) (λ e. NotAdded (refuses self.old line) e) }
+        ensures lines { MatchResult result (λ _. MoreLines self.old line self.new)
+            (λ _. SameLines self.old self.new) }
+        ensures refused { MatchResult result (λ _. refuses self.old line ≡ false)
+            (λ e. NotAdded (refuses self.old line) e) }
     {
         match self {
             HallDirectory::List(directory) => directory.add(line),

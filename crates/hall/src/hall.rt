@@ -13,7 +13,6 @@ use crate::directory::HallDirectory;
 use crate::directory_kind::DirectoryKind;
 use crate::directory_state::DirectoryState;
 use crate::not_done::NotDone;
-use crate::opening::Opening;
 use control::ControlTable;
 use directories::{ListDirectory, ServiceLine, TurningDirectory};
 use flat::FlatStore;
@@ -25,7 +24,7 @@ pub(crate) struct Hall {
     book: Option<Book>,
     store: Option<StoreKind>,
     directory: Option<HallDirectory>,
-    // How many rows a new control table is to have. The table borrows its rows, so it stands in the player.
+    // How many rows a new control table is to have. The table borrows its rows, so the stage has it.
     wanted_rows: Option<usize>,
 }
 
@@ -39,7 +38,10 @@ fn lend<'a>(heap: Global, names: &'a [Vec<u8>]) -> Result<Vec<&'a [u8]>, AllocEr
 impl Hall {
     // Nothing is set up, and nothing is wanted.
     pub(crate) fn new() -> Hall
-        ensures { (result.book ≡ None) × (result.store ≡ None) × (result.directory ≡ None) × (result.wanted_rows ≡ None) }
+        ensures book { result.book ≡ None }
+        ensures store { result.store ≡ None }
+        ensures directory { result.directory ≡ None }
+        ensures rows { result.wanted_rows ≡ None }
     {
         Hall {
             book: None,
@@ -53,7 +55,9 @@ impl Hall {
     pub(crate) fn take_wanted_rows(&mut self) -> Option<usize>
         ensures taken { result ≡ self.old.wanted_rows }
         ensures left { self.new.wanted_rows ≡ None }
-        ensures rest { SameBook self.old self.new × SameStore self.old self.new × SameDirectory self.old self.new }
+        ensures book { SameBook self.old self.new }
+        ensures store { SameStore self.old self.new }
+        ensures directory { SameDirectory self.old self.new }
     {
         self.wanted_rows.take()
     }
@@ -70,19 +74,11 @@ impl Hall {
         self.directory.as_mut()
     }
 
-    // Whether a router can be opened over the book and a new store: it is misplaced before these are there.
-    pub(crate) fn check_opening(&self, opening: &Opening) -> Result<(), NotDone> {
-        let book = self.book.as_ref().ok_or(NotDone::Misplaced)?;
-        if self.store.is_none() {
-            return Err(NotDone::Misplaced);
-        }
-        opening.check(book)?;
-        Ok(())
-    }
-
     fn make_book(&mut self, heap: Global, names: &[Vec<u8>]) -> Result<(), NotDone>
-        ensures outcome { IfSome (outcome_of result) (λ o. BookOutcome (map vec_items names.now) o) }
-        ensures hall { IfSome (outcome_of result) (λ o. HallAfter self.old (book (map vec_items names.now)) o self.new) }
+        ensures outcome { IfSome (outcome_of result) (λ o.
+            BookOutcome (map vec_items names.now) o) }
+        ensures hall { IfSome (outcome_of result) (λ o.
+            HallAfter self.old (book (map vec_items names.now)) o self.new) }
     {
         let lent = lend(heap, names)?;
         self.book = Some(Book::new(heap, lent.as_slice())?);
@@ -91,7 +87,8 @@ impl Hall {
 
     fn choose_store(&mut self, kind: StoreKind) -> Result<(), NotDone>
         ensures outcome { outcome_of result ≡ Some (store_outcome kind) }
-        ensures hall { IfSome (outcome_of result) (λ o. HallAfter self.old (store kind) o self.new) }
+        ensures hall { IfSome (outcome_of result) (λ o.
+            HallAfter self.old (store kind) o self.new) }
     {
         if let StoreKind::Flat(rows) = kind {
             FlatStore::check_rows(rows)?;
@@ -110,8 +107,10 @@ impl Hall {
     }
 
     fn serve(&mut self, line: ServiceLine) -> Result<(), NotDone>
-        ensures outcome { IfSome (outcome_of result) (λ o. o ≡ serve_outcome self.old.directory line) }
-        ensures hall { IfSome (outcome_of result) (λ o. HallAfter self.old (serve line) o self.new) }
+        ensures outcome { IfSome (outcome_of result) (λ o.
+            o ≡ serve_outcome self.old.directory line) }
+        ensures hall { IfSome (outcome_of result) (λ o.
+            HallAfter self.old (serve line) o self.new) }
     {
         let directory = self.directory.as_mut().ok_or(NotDone::Misplaced)?;
         directory.add(line)?;
@@ -120,7 +119,8 @@ impl Hall {
 
     fn mark(&mut self, state: DirectoryState) -> Result<(), NotDone>
         ensures outcome { outcome_of result ≡ Some (mark_outcome self.old.directory) }
-        ensures hall { IfSome (outcome_of result) (λ o. HallAfter self.old (mark state) o self.new) }
+        ensures hall { IfSome (outcome_of result) (λ o.
+            HallAfter self.old (mark state) o self.new) }
     {
         match &mut self.directory {
             Some(HallDirectory::Turning(directory)) => {
@@ -133,7 +133,8 @@ impl Hall {
 
     fn want_control(&mut self, rows: usize) -> Result<(), NotDone>
         ensures outcome { outcome_of result ≡ Some (opens (control_rows_fit rows)) }
-        ensures hall { IfSome (outcome_of result) (λ o. HallAfter self.old (control rows) o self.new) }
+        ensures hall { IfSome (outcome_of result) (λ o.
+            HallAfter self.old (control rows) o self.new) }
     {
         ControlTable::check_rows(rows)?;
         self.wanted_rows = Some(rows);
@@ -147,9 +148,12 @@ impl Hall {
         table: &mut ControlTable<'_>,
         change: &Change,
     ) -> Result<(), NotDone>
-        ensures outcome { IfSome (outcome_of result) (λ o. OutcomeFor self.old.directory table.old (wanted change.now) o) }
-        ensures hall { IfSome (outcome_of result) (λ o. HallAfter self.old (wanted change.now) o self.new) }
-        ensures rows { IfSome (outcome_of result) (λ o. RowsAfter table.old (wanted change.now) o table.new) }
+        ensures outcome { IfSome (outcome_of result) (λ o.
+            OutcomeFor self.old.directory table.old (wanted change.now) o) }
+        ensures hall { IfSome (outcome_of result) (λ o.
+            HallAfter self.old (wanted change.now) o self.new) }
+        ensures rows { IfSome (outcome_of result) (λ o.
+            RowsAfter table.old (wanted change.now) o table.new) }
     {
         match change {
             Change::Book(names) => self.make_book(heap, names.as_slice())?,

@@ -8,7 +8,8 @@ use std::alloc::AllocError;
 
 #[derive(Clone, Copy, Debug, PartialEq, Eq)]
 pub(crate) enum NotDone {
-    /// It was refused, or there was no memory for it, which has no refusal number and so ends the scenario.
+    /// It was refused, or there was no memory for it, which has no refusal number and so ends the
+    /// scenario.
     Setup(SetupError),
     /// It came before what it needs.
     Misplaced,

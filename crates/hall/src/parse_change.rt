@@ -39,7 +39,8 @@ pub(crate) fn parse_length(word: &[u8]) -> Option<usize>
 
 // The octets of each word, if all are octets.
 fn parse_names(heap: Global, words: &[&[u8]]) -> Result<Option<Vec<Vec<u8>>>, AllocError>
-    ensures { IfOk result (λ o. option_map (λ v. map vec_items v.items) o ≡ names_in (map text words.now)) }
+    ensures { IfOk result (λ o.
+        option_map (λ v. map vec_items v.items) o ≡ names_in (map text words.now)) }
 {
     let mut names = Vec::new(heap);
     // A `for`: the library says nothing yet of what `collect` into an `Option` gives.

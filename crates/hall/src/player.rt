@@ -12,25 +12,40 @@ ghost use Rattle.hall.specs.Readings.{asked};
 
 use crate::call::Call;
 use crate::command::{Command, parse_command};
+use crate::hall_router::HallRouter;
 use crate::not_done::NotDone;
 use crate::opening::Opening;
 use crate::outcome::{not_done_line, outcome_line};
-use crate::routing::Routing;
 use crate::stage::Stage;
 use crate::ue_note::UeNote;
 use crate::verb::Verb;
 use crate::word::Word;
 use playing::{LinePlayer, error_line, line_words, read_line};
 use std::alloc::AllocError;
-use std::ops::ControlFlow;
+use std::mem;
 
-#[derive(Drop)]
-pub(crate) struct Player<'a, 'b, R: Routing> {
-    pub(crate) stage: &'a mut Stage<'b>,
-    pub(crate) routing: &'a mut R,
+// It has no `Drop`, as a router that is open has none: `end` ends that.
+pub(crate) struct Player<'a> {
+    stage: Stage<'a>,
+    router: HallRouter<'a>,
 }
 
-impl<R: Routing> Player<'_, '_, R> {
+impl<'a> Player<'a> {
+    // No router is open yet.
+    pub(crate) fn new(stage: Stage<'a>) -> Player<'a> {
+        Player {
+            stage,
+            router: HallRouter::Closed,
+        }
+    }
+
+    // Ends the router that is open, if one is.
+    pub(crate) fn end(self) {
+        let Player { stage, router } = self;
+        drop(stage);
+        router.end();
+    }
+
     // The line of what was done, which is the verb alone, or the line that says why it was not.
     fn done_line(
         &self,
@@ -47,17 +62,17 @@ impl<R: Routing> Player<'_, '_, R> {
         }
     }
 
-    // Has a router opened behind this line, if it can be.
-    fn want_router(&mut self, opening: Opening) -> Result<(), NotDone> {
-        self.stage.hall.check_opening(&opening)?;
-        self.stage.wanted = Some(opening);
+    // Opens a router in the place of the one that is open, which is ended then.
+    fn open_router(&mut self, opening: Opening) -> Result<(), NotDone> {
+        let router = self.stage.open_router(opening)?;
+        mem::replace(&mut self.router, router).end();
         Ok(())
     }
 
     fn open_line(&mut self, number: u64, opening: Opening) -> Result<String, AllocError>
         ensures { IfOk result (λ s. (o : Outcome) × (string_bytes s ≡ done_line number verbs.Open o)) }
     {
-        let done = self.want_router(opening);
+        let done = self.open_router(opening);
         self.done_line(number, Verb::Open, done)
     }
 
@@ -71,7 +86,7 @@ impl<R: Routing> Player<'_, '_, R> {
     fn call_line(&mut self, number: u64, call: &Call) -> Result<String, AllocError>
         ensures { IfOk result (λ s. (o : Outcome) × CallLine number (called call.now) o (string_bytes s)) }
     {
-        match self.routing.ask(self.stage, call) {
+        match self.router.ask(&mut self.stage, call) {
             Ok(line) => Ok(line),
             Err(not_done) => not_done_line(self.stage.rt.alloc(), number, call.verb(), not_done),
         }
@@ -79,7 +94,9 @@ impl<R: Routing> Player<'_, '_, R> {
 
     // What a line of this number prints that asks for `command`.
     fn command_line(&mut self, number: u64, command: &Command) -> Result<String, AllocError>
-        ensures { IfOk result (λ s. Printed self.old.stage.now.hall.directory self.old.stage.now.table.table.rows.now number (asked command.now) (string_bytes s)) }
+        ensures { IfOk result (λ s.
+            Printed self.old.stage.hall.directory self.old.stage.table number
+            (asked command.now) (string_bytes s)) }
     {
         let heap = self.stage.rt.alloc();
         match command {
@@ -96,7 +113,9 @@ impl<R: Routing> Player<'_, '_, R> {
 
     // The same, where the line may ask for nothing that there is.
     fn answer_line(&mut self, number: u64, command: Option<Command>) -> Result<String, AllocError>
-        ensures { IfOk result (λ s. PrintedIf self.old.stage.now.hall.directory self.old.stage.now.table.table.rows.now number (option_map asked command) (string_bytes s)) }
+        ensures { IfOk result (λ s.
+            PrintedIf self.old.stage.hall.directory self.old.stage.table number
+            (option_map asked command) (string_bytes s)) }
     {
         match command {
             Some(command) => self.command_line(number, &command),
@@ -106,7 +125,9 @@ impl<R: Routing> Player<'_, '_, R> {
 
     // What the line of this number prints, if it prints anything.
     fn answer(&mut self, number: u64, line: &[u8]) -> Result<Option<String>, AllocError>
-        ensures { IfOk result (λ o. Answers self.old.stage.now.hall.directory self.old.stage.now.table.table.rows.now number line.now (option_map string_bytes o)) }
+        ensures { IfOk result (λ o.
+            Answers self.old.stage.hall.directory self.old.stage.table number
+            line.now (option_map string_bytes o)) }
     {
         let heap = self.stage.rt.alloc();
         let Some(words) = line_words(heap, line)? else {
@@ -117,16 +138,12 @@ impl<R: Routing> Player<'_, '_, R> {
     }
 }
 
-impl<R: Routing> LinePlayer for Player<'_, '_, R> {
-    // A line that asks for another router breaks off.
-    fn play_line(&mut self, number: u64, line: &[u8]) -> anyhow::Result<ControlFlow<()>> {
+impl LinePlayer for Player<'_> {
+    fn play_line(&mut self, number: u64, line: &[u8]) -> anyhow::Result<()> {
         if let Some(text) = self.answer(number, line)? {
             self.stage.rt.println(text)?;
         }
         self.stage.renew_table()?;
-        if self.stage.wanted.is_some() {
-            return Ok(ControlFlow::Break(()));
-        }
-        Ok(ControlFlow::Continue(()))
+        Ok(())
     }
 }

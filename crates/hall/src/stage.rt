@@ -6,6 +6,7 @@ ghost use Rattle.hall.specs.Ends.{outcome_of};
 
 use crate::change::Change;
 use crate::hall::Hall;
+use crate::hall_router::HallRouter;
 use crate::not_done::NotDone;
 use crate::opening::Opening;
 use bumpalo::Bump;
@@ -19,13 +20,11 @@ const USUAL_ROWS: usize = 64;
 #[derive(Drop)]
 pub(crate) struct Stage<'a> {
     pub(crate) rt: &'a HostRuntime,
-    // Where the rows of every control table stand: a new table comes while the router goes on, so neither can be made inside the other's scope.
+    // Where the rows of all control tables and flat stores stand, as one of them follows another.
     space: &'a Bump,
     pub(crate) hall: Hall,
     pub(crate) table: ControlTable<'a>,
     pub(crate) ues: UeRegister,
-    // The router that is to be opened next.
-    pub(crate) wanted: Option<Opening>,
 }
 
 // An empty table; none for a number of rows that no table has.
@@ -53,15 +52,20 @@ impl<'a> Stage<'a> {
             hall: Hall::new(),
             table,
             ues: UeRegister::new(rt.alloc()),
-            wanted: None,
         }))
     }
 
     // Does what a command asks for in the hall, where it can be done.
     pub(crate) fn apply(&mut self, change: &Change) -> Result<(), NotDone>
-        ensures { IfSome (outcome_of result) (λ o. OutcomeFor self.old.hall.directory self.old.table.table.rows.now (wanted change.now) o) }
+        ensures { IfSome (outcome_of result) (λ o.
+            OutcomeFor self.old.hall.directory self.old.table (wanted change.now) o) }
     {
         self.hall.apply(self.rt.alloc(), &mut self.table, change)
+    }
+
+    // A new router, where it can be opened.
+    pub(crate) fn open_router(&self, opening: Opening) -> Result<HallRouter<'a>, NotDone> {
+        HallRouter::open(self.rt.alloc(), self.space, &self.hall, opening)
     }
 
     // Makes the control table that is wanted, if one is.

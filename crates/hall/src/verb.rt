@@ -84,7 +84,7 @@ impl Verb {
         Verb::Find,
     ];
 
-    // The verb that the word is, if it is one. No `TryFrom`, since an error would have nothing to say.
+    // The verb that the word is, if it is one. No `TryFrom`, as an error would have nothing to say.
     pub(crate) fn from_word(word: &[u8]) -> Option<Verb>
         ensures { result ≡ verb_in word.now }
     {

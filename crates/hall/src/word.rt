@@ -36,7 +36,8 @@ pub(crate) fn named_by<T: Worded>(all: &[T], text: &[u8]) -> Option<T>
 
 // The value that the one word names; none where there is another number of words.
 pub(crate) fn only_named<T: Worded>(all: &[T], words: &[&[u8]]) -> Option<T>
-    ensures { result ≡ of_one (λ word. find (λ v. bytes_eq word (T.word v)) all.now) (map text words.now) }
+    ensures { result
+        ≡ of_one (λ word. find (λ v. bytes_eq word (T.word v)) all.now) (map text words.now) }
 {
     let [word] = words else {
         return None;

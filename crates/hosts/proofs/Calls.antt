@@ -1,12 +1,12 @@
 -- What the calls of a router leave of the tickets that are held.
-use Rattle.std.proofs.Common.{◌≡◌, ℕ, ◌<◌, Bool, true, false, cond, ◌&&◌, not, eqb, List, [], ◌∷◌, ◌++◌, length, set, is_some, Some, None, Ok, Err, Option, Result, sym, refl, ap, subst, ◌∙◌, is_err}
+use Rattle.std.proofs.Common.{◌≡◌, ℕ, Bool, true, false, cond, ◌&&◌, not, eqb, List, [], ◌∷◌, ◌++◌, set, is_some, Some, None, Ok, Err, Option, Result, sym, refl, ap, subst, ◌∙◌, is_err}
 use Rattle.std.specs.List.{position}
 use Rattle.std.proofs.lemmas.Bool.{false≢true, and_parts}
 use Rattle.std.proofs.lemmas.List.{get_or-set_same}
 use Rattle.std.proofs.lemmas.List.Quantifiers.{position-Some}
 use Rattle.flights.specs.declared.flight.Flight.{Flight}
 use Rattle.flights.specs.declared.flight.Mark.TheVariants.{InHand}
-use Rattle.flights.specs.Slots.{at, held, in_hand, is_parked, is_parked_mark, marked, with_mark}
+use Rattle.flights.specs.Slots.{at, held, is_parked, is_parked_mark, marked, with_mark}
 use Rattle.nas.specs.Uplinks.{Message}
 use Rattle.accounts.specs.Receives.{Received, Answer, received}
 use Rattle.router.specs.declared.answer.Delivery.{Delivery}
@@ -16,7 +16,7 @@ use Rattle.router.specs.Receiving.{ticket_in, IsOpen}
 use Rattle.router.specs.Views.{token}
 use Rattle.runs.specs.Models.{Model, Token, state}
 use Rattle.runs.specs.Calls.{Releases, Receives, ReceiveDoes, Delivered, Takes, Fails, Parks, Picks, of_flight, flight, ticket_at}
-use Rattle.hosts.specs.Holdings.{is_open, none_of, all_open, Fresh}
+use Rattle.hosts.specs.Holdings.{is_open, none_of, all_open, Fresh, KeepsStore}
 use Rattle.hosts.proofs.Holding.{Parts, stay_open, apart_from, added}
 
 abbrev Flights : Type 0
@@ -88,6 +88,14 @@ module _ (m n : Model) (t : Ticket) (ts : List Ticket) (p : Parts m.flights t ts
 
   pub parked_refused : (e : ℕ) → Parks m (token t) (Err e) n → ⊥
   parked_refused e h = not_refused (flight m (token t)) (λ f. f.number) e p.opened h.answer
+
+  pub parked_store : (a : Result ℕ ℕ) → Parks m (token t) a n → KeepsStore m n
+  parked_store (Ok x) h = record {
+    contexts = ap (λ (k : Model). k.contexts) h.does;
+    floor = ap (λ (k : Model). k.floor) h.does;
+    room = λ u k. ap (λ (x : Model). x.room u k) h.does;
+  }
+  parked_store (Err e) h = record { contexts = h.does.contexts; floor = h.does.floor; room = h.does.room }
 
   pub parked_left : (a : Result ℕ ℕ) → Parks m (token t) a n → all_open n.flights ts ≡ true
   parked_left (Ok x) h = same_open _ _ ts (ap (λ (k : Model). k.flights) h.does) (stay_open m.flights t.slot _ ts p.apart p.rest)

@@ -1,5 +1,5 @@
 -- Tickets that are held stay open while the others change.
-use Rattle.std.proofs.Common.{◌≡◌, ℕ, ◌+◌, ◌<◌, Bool, true, false, ◌&&◌, not, eqb, List, [], ◌∷◌, ◌++◌, length, set, take, drop, is_some, Some, None, Option, sym, refl, ap, subst, ◌∙◌, slice_index_or}
+use Rattle.std.proofs.Common.{◌≡◌, ℕ, ◌+◌, true, false, ◌&&◌, not, eqb, List, [], ◌∷◌, ◌++◌, set, take, drop, is_some, None, Option, sym, refl, ap, subst, ◌∙◌}
 use Rattle.std.proofs.lemmas.Bool.{and_parts, and_from, both_ways, eqb-false, ne_eqb, not-true, not_from_false}
 use Rattle.std.proofs.lemmas.List.{append-nil, get_or-set_other, drop_more, take-append-drop}
 use Rattle.flights.specs.declared.flight.Flight.{Flight}

@@ -4,7 +4,11 @@ use Rattle.flights.specs.declared.flight.Flight.{Flight}
 use Rattle.flights.specs.Slots.{in_hand}
 use Rattle.router.specs.declared.answer.Delivery.{Delivery}
 use Rattle.router.specs.declared.answer.Delivery.TheVariants.{Forwarded, Returned}
+use Rattle.router.specs.declared.router.Router.{Router}
 use Rattle.router.specs.declared.ticket.Ticket.{Ticket}
+use Rattle.router.specs.Views.{model}
+use Rattle.runs.specs.Models.{Model}
+use Rattle.stores.specs.declared.store.Store.{Ghosts}
 
 -- the ticket is open in a router with these flights
 abbrev pub is_open : List (Option Flight) → Ticket → Bool
@@ -36,3 +40,15 @@ Fresh flights ts (Returned n) = Unit {0}
 abbrev pub Shrinks : Bool → List Ticket → List Ticket → Type 0
 Shrinks true xs ys = length xs ≡ length ys + 1
 Shrinks false xs ys = ys ≡ []
+
+-- the store has the same contexts, and room for the same sessions
+pub record KeepsStore (m n : Model) : Type 0 where
+  pub contexts : n.contexts ≡ m.contexts
+  pub floor : n.floor ≡ m.floor
+  pub room : (u k : ℕ) → n.room u k ≡ m.room u k
+
+-- this store is as the one of the router: with the same contexts, and room for the same sessions
+pub record IsStoreOf {S : Type 0} {g : Ghosts S} (r : Router S g) (s : S) : Type 0 where
+  pub contexts : g.contexts s ≡ (model r []).contexts
+  pub floor : g.floor s ≡ (model r []).floor
+  pub room : (u k : ℕ) → g.room s u k ≡ (model r []).room u k

@@ -23,21 +23,24 @@ fn choose_pool<'p>(pool: &'p [u8], other: &'p [u8]) -> &'p [u8] {
     }
 }
 
-// It has no `Drop`, as a ticket has none: `end` gives the tickets back.
-pub struct Host<'a, S: Store> {
-    router: Router<'a, S>,
+/// A router, the tickets that its host holds, and the pool that it lends: 32,768 octets, the same ones from
+/// call to call. It has no `Drop`, as a ticket has none: `end` gives the tickets back.
+pub struct Host<S: Store> {
+    router: Router<S>,
     tickets: Tickets,
     pool: Vec<u8>,
     // each ticket is open in the router, and no two are of one slot
     ghost held: { all_open (model router []).flights tickets.held.items ≡ true },
 }
 
-impl<'a, S: Store> Host<'a, S> {
+impl<S: Store + Drop> Host<S> {
     ghost use Rattle.std.specs.Prelude.{IfOk};
-    ghost use Rattle.hosts.specs.Holdings.{Fresh, Shrinks};
 
-    // A host that holds no tickets.
-    pub fn new(heap: Global, router: Router<'a, S>) -> Result<Host<'a, S>, AllocError> {
+    /// A host of this router that holds no tickets yet. Where there is no memory for the pool, the router is
+    /// let go.
+    pub fn new(heap: Global, router: Router<S>) -> Result<Host<S>, AllocError>
+        ensures { IfOk result (λ h. (h.router ≡ router) × (h.tickets.held.items ≡ [])) }
+    {
         let pool = vec![in heap; 0; POOL_LENGTH]?;
         Ok(Host {
             router,
@@ -45,6 +48,11 @@ impl<'a, S: Store> Host<'a, S> {
             pool,
         })
     }
+}
+
+impl<S: Store> Host<S> {
+    ghost use Rattle.std.specs.Prelude.{IfOk};
+    ghost use Rattle.hosts.specs.Holdings.{Fresh, Shrinks, KeepsStore, IsStoreOf};
 
     // What the router answers to a message, with a pool of this length.
     fn ask<D: Directory>(
@@ -58,7 +66,10 @@ impl<'a, S: Store> Host<'a, S> {
         message: &[u8],
     ) -> Result<Answer, SetupError>
         ensures tickets { self.new.tickets ≡ self.old.tickets }
-        ensures given { IfOk result (λ a. Fresh (model self.new.router []).flights self.new.tickets.held.items a.delivery) }
+        ensures given {
+            IfOk result (λ a.
+                Fresh (model self.new.router []).flights self.new.tickets.held.items a.delivery)
+        }
     {
         if pool == POOL_LENGTH {
             let pool = self.pool.as_mut_slice();
@@ -75,7 +86,8 @@ impl<'a, S: Store> Host<'a, S> {
         )
     }
 
-    // Hands the router a message of a UE, and holds the ticket that it gives.
+    /// Hands the router a message of a UE, with buffers of these lengths, and holds the ticket that it gives.
+    /// It is refused as the router refuses it.
     pub fn receive<D: Directory>(
         &mut self,
         heap: Global,
@@ -119,7 +131,8 @@ impl<'a, S: Store> Host<'a, S> {
         })
     }
 
-    // The octets of the payload of this number.
+    /// The octets of the payload of this number. It is refused where no ticket of it is held, and where a pool
+    /// has another length.
     pub fn payload(&self, heap: Global, number: u32, pool: usize) -> Result<Vec<u8>, SetupError> {
         let other = vec![in heap; 0; pool]?;
         let ticket = self.tickets.find(number).ok_or(Refusal::UnknownTicket)?;
@@ -128,7 +141,7 @@ impl<'a, S: Store> Host<'a, S> {
         Ok(octets.to_vec(heap)?)
     }
 
-    // An SMF took the payload of this number.
+    /// An SMF took the payload of this number. It is refused where no ticket of it is held.
     pub fn taken(&mut self, number: u32) -> Result<(), Refusal> {
         let Some(ticket) = self.tickets.take(number) else {
             return Err(Refusal::UnknownTicket);
@@ -140,7 +153,8 @@ impl<'a, S: Store> Host<'a, S> {
         }
     }
 
-    // The SMF did not take the payload of this number: the message that goes back to the UE.
+    /// The SMF did not take the payload of this number: the message that goes back to the UE. Where it is
+    /// refused for the sake of the buffers, the ticket is still held.
     pub fn failed(
         &mut self,
         heap: Global,
@@ -166,7 +180,7 @@ impl<'a, S: Store> Host<'a, S> {
         }
     }
 
-    // Exchanges the ticket of this number for its number.
+    /// Exchanges the ticket of this number for its number. It is refused where no ticket of it is held.
     pub fn park(&mut self, number: u32) -> Result<u32, Refusal> {
         let Some(ticket) = self.tickets.take(number) else {
             return Err(Refusal::UnknownTicket);
@@ -178,7 +192,7 @@ impl<'a, S: Store> Host<'a, S> {
         }
     }
 
-    // Holds the parked ticket of this number again.
+    /// Holds the parked ticket of this number again. It is refused where none is parked under it.
     pub fn pick(&mut self, number: u32) -> Result<(), SetupError> {
         self.tickets.reserve()?;
         let ticket = self.router.pick(number)?;
@@ -186,19 +200,20 @@ impl<'a, S: Store> Host<'a, S> {
         Ok(())
     }
 
-    // The SMF released the session.
+    /// The SMF released the session: its context is gone. It is refused where there is none.
     pub fn released(&mut self, session: PduSession) -> Result<(), Refusal> {
         self.router.released(session)
     }
 
-    // The context of the session.
+    /// The context of the session, if it has one.
     pub fn context(&self, session: PduSession) -> Option<Context> {
         self.router.context(session)
     }
 
     // Parks the last ticket; false where there is none.
     fn park_last(&mut self) -> bool
-        ensures { Shrinks result self.old.tickets.held.items self.new.tickets.held.items }
+        ensures tickets { Shrinks result self.old.tickets.held.items self.new.tickets.held.items }
+        ensures store { KeepsStore (model self.old.router []) (model self.new.router []) }
     {
         let Some(ticket) = self.tickets.take_last() else {
             return false;
@@ -210,14 +225,17 @@ impl<'a, S: Store> Host<'a, S> {
         }
     }
 
-    // Gives up the router, which is not asked again, with all that was held for it: every ticket is parked.
-    pub fn end(mut self) {
+    /// Parks every ticket that is held, lets the router go, and gives its store back as it was.
+    pub fn end(mut self) -> S
+        ensures { IsStoreOf self.router result }
+    {
         while self.park_last() {}
         let Host {
-            router: _,
+            router,
             tickets,
             pool: _,
         } = self;
         tickets.end();
+        router.into_store()
     }
 }

@@ -1,4 +1,5 @@
-// What a host has of a router: the router itself, the tickets that it holds, the pool that it lends, and its UE records.
+// What a host has of a router: the router itself, the tickets that it holds, the pool that it lends, and
+// its UE records.
 #![tactic(auto)]
 
 mod host;

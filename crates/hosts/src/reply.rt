@@ -2,6 +2,7 @@
 use codes::{RequestType, SessionId};
 use verdicts::Verdict;
 
+/// An answer to a message whose ticket, if it has one, its host holds.
 #[derive(Drop)]
 pub struct Reply {
     /// The number of the payload.

@@ -3,7 +3,7 @@ use codes::UeNumber;
 use records::{KnownLine, SubscriptionLine, UeRecord};
 use std::alloc::{AllocError, Global};
 
-// As many lines as are given: a router refuses a record that has too many.
+/// A UE on record, with as many lines as are given: a router refuses a record that has too many.
 #[derive(Drop)]
 pub struct UeEntry {
     high_priority: bool,
@@ -14,7 +14,7 @@ pub struct UeEntry {
 }
 
 impl UeEntry {
-    // A UE with no lines.
+    /// A UE with no lines, and with this session limit.
     pub fn new(
         heap: Global,
         high_priority: bool,
@@ -30,15 +30,17 @@ impl UeEntry {
         }
     }
 
+    /// One more subscription line, behind those that there are.
     pub fn subscribe(&mut self, line: SubscriptionLine) -> Result<(), AllocError> {
         Ok(self.subscriptions.push(line)?)
     }
 
+    /// One more known line, behind those that there are.
     pub fn know(&mut self, line: KnownLine) -> Result<(), AllocError> {
         Ok(self.known.push(line)?)
     }
 
-    // The record of the UE that has this number.
+    /// The record of the UE that has this number.
     pub fn record(&self, number: UeNumber) -> UeRecord<'_> {
         UeRecord {
             number,

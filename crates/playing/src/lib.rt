@@ -1,4 +1,5 @@
-// What playing a scenario takes besides its commands: the words of a line, the command `read` and its reply, and the loop over the lines.
+// What playing a scenario takes besides its commands: the words of a line, the command `read` and its
+// reply, and the loop over the lines.
 #![tactic(auto)]
 
 mod line;

@@ -12,7 +12,8 @@ use scenario::parse_octets;
 use std::alloc::{AllocError, Global};
 use std::fmt;
 
-// The octets of the one word behind `read`; none where there is another number of words, or the word is not octets.
+/// The octets of the one word behind `read`; none where there is another number of words, or the word is
+/// not octets.
 pub fn read_operand(heap: Global, words: &[&[u8]]) -> Result<Option<Vec<u8>>, AllocError>
     ensures { IfOk result (λ o. option_map vec_items o ≡ operand_in (map text words.now)) }
 {
@@ -22,7 +23,7 @@ pub fn read_operand(heap: Global, words: &[&[u8]]) -> Result<Option<Vec<u8>>, Al
     parse_octets(heap, *word)
 }
 
-// What reading a message made of it, to be written as the line that says so.
+/// What reading a message made of it, to be written as the line that says so.
 #[derive(Clone, Copy, Debug)]
 pub struct ReadReply<'a>(pub Result<Uplink<'a>, Refusal>);
 
@@ -48,7 +49,7 @@ impl fmt::Display for ReadReply<'_> {
     }
 }
 
-// What reading these octets as a message prints.
+/// What reading these octets as a message prints.
 pub fn read_line(heap: Global, octets: &[u8]) -> Result<String, AllocError>
     ensures { IfOk result (λ s. string_bytes s ≡ read_line (read octets.now)) }
 {

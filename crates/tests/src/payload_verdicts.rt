@@ -1,5 +1,6 @@
-// Verdicts, rule by rule: messages over some contexts, control lines and a directory, and what becomes of each. They are
-// constants, since a test is proved as well, and a table in its body is proved entry by entry.
+// Verdicts, rule by rule: messages over some contexts, control lines and a directory, and what becomes
+// of each. They are constants, since a test is proved as well, and a table in its body is proved entry
+// by entry.
 use codes::*;
 use control::*;
 use directories::*;
@@ -183,7 +184,8 @@ const OTHERS: Context = Context {
     ..SESSION_1
 };
 
-// A request type, a session, the DNN that is named, what becomes of the payload, and the SMF at which the session is released.
+// A request type, a session, the DNN that is named, what becomes of the payload, and the SMF at which
+// the session is released.
 type Row = (
     Option<RequestType>,
     SessionId,
@@ -364,7 +366,8 @@ const CONGESTION: [Trial; 2] = [
     },
 ];
 
-// Control lines hold off initial and existing requests and modifications, but not those of a UE of high priority.
+// Control lines hold off initial and existing requests and modifications, but not those of a UE of high
+// priority.
 #[test]
 fn congestion(rt: HostRuntime) -> Result<(), Fail> {
     are_judged(&rt, rt.alloc(), &CONGESTION)?;
@@ -439,7 +442,8 @@ const STANDING_CONTEXT: [Trial; 1] = [Trial {
     ..TRIAL
 }];
 
-// Where a context stands, all but an initial request goes to its SMF; an emergency request only if it is an emergency context.
+// Where a context stands, all but an initial request goes to its SMF; an emergency request only if it is
+// an emergency context.
 #[test]
 fn standing_context(rt: HostRuntime) -> Result<(), Fail> {
     are_judged(&rt, rt.alloc(), &STANDING_CONTEXT)?;
@@ -497,8 +501,8 @@ const KNOWN_ELSEWHERE: [Trial; 2] = [
     },
 ];
 
-// A session that is known elsewhere goes to the SMF that has it: by its number or the DNN that is named, and in an emergency by the
-// DNN of emergency sessions.
+// A session that is known elsewhere goes to the SMF that has it: by its number or the DNN that is named,
+// and in an emergency by the DNN of emergency sessions.
 #[test]
 fn known_elsewhere(rt: HostRuntime) -> Result<(), Fail> {
     are_judged(&rt, rt.alloc(), &KNOWN_ELSEWHERE)?;
@@ -544,7 +548,8 @@ const EMERGENCY_REQUEST: [Trial; 5] = [
     },
 ];
 
-// An initial emergency request goes to the SMF of another emergency session, else to the static one, else where the directory chooses.
+// An initial emergency request goes to the SMF of another emergency session, else to the static one,
+// else where the directory chooses.
 #[test]
 fn emergency_request(rt: HostRuntime) -> Result<(), Fail> {
     are_judged(&rt, rt.alloc(), &EMERGENCY_REQUEST)?;
@@ -567,7 +572,8 @@ fn nothing_to_change(rt: HostRuntime) -> Result<(), Fail> {
     Ok(())
 }
 
-// A record, a request type, the slice and DNN that are named, whether a context stands, and the slice and DNN used.
+// A record, a request type, the slice and DNN that are named, whether a context stands, and the slice
+// and DNN used.
 type Use = (
     UeRecord<'static>,
     Option<RequestType>,

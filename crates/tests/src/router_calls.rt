@@ -1,5 +1,5 @@
-// The calls of a router over either store, each as a host makes it: a payload that its SMF does not take, one that it takes, and
-// one that goes back at once.
+// The calls of a router over either store, each as a host makes it: a payload that its SMF does not
+// take, one that it takes, and one that goes back at once.
 use codes::*;
 use control::*;
 use directories::*;
@@ -57,7 +57,7 @@ struct Host<'a> {
 }
 
 fn receive<S: Store>(
-    router: &mut Router<'_, S>,
+    router: &mut Router<S>,
     host: &mut Host<'_>,
     message: &[u8],
 ) -> Result<Answer, Refusal> {
@@ -74,7 +74,7 @@ fn receive<S: Store>(
 // The ticket of the message, which goes to SMF 7 under this number.
 fn forward<S: Store>(
     rt: &impl Abort,
-    router: &mut Router<'_, S>,
+    router: &mut Router<S>,
     host: &mut Host<'_>,
     wanted: u32,
 ) -> Ticket {
@@ -104,7 +104,7 @@ fn forward<S: Store>(
 }
 
 // The same ticket, once it was parked.
-fn repick<S: Store>(rt: &impl Abort, router: &mut Router<'_, S>, ticket: Ticket) -> Ticket {
+fn repick<S: Store>(rt: &impl Abort, router: &mut Router<S>, ticket: Ticket) -> Ticket {
     let number = match router.park(ticket) {
         Ok(number) => number,
         Err(_back) => panic!(rt; "not parked"),
@@ -117,7 +117,7 @@ fn repick<S: Store>(rt: &impl Abort, router: &mut Router<'_, S>, ticket: Ticket)
 
 fn fail<S: Store>(
     rt: &impl Abort,
-    router: &mut Router<'_, S>,
+    router: &mut Router<S>,
     host: &mut Host<'_>,
     ticket: Ticket,
 ) {
@@ -127,7 +127,7 @@ fn fail<S: Store>(
     }
 }
 
-fn take<S: Store>(rt: &impl Abort, router: &mut Router<'_, S>, ticket: Ticket) {
+fn take<S: Store>(rt: &impl Abort, router: &mut Router<S>, ticket: Ticket) {
     match router.taken(ticket) {
         Ok(()) => {}
         Err(_back) => panic!(rt; "not taken"),
@@ -135,7 +135,7 @@ fn take<S: Store>(rt: &impl Abort, router: &mut Router<'_, S>, ticket: Ticket) {
 }
 
 // The session has no context, so the message that requests nothing goes back.
-fn go_back<S: Store>(rt: &impl Abort, router: &mut Router<'_, S>, host: &mut Host<'_>) {
+fn go_back<S: Store>(rt: &impl Abort, router: &mut Router<S>, host: &mut Host<'_>) {
     let Ok(answer) = receive(router, host, BARE_MESSAGE) else {
         panic!(rt; "refused")
     };
@@ -156,7 +156,7 @@ fn go_back<S: Store>(rt: &impl Abort, router: &mut Router<'_, S>, host: &mut Hos
     }
 }
 
-fn run<S: Store>(rt: &impl Abort, router: &mut Router<'_, S>, host: &mut Host<'_>) {
+fn run<S: Store>(rt: &impl Abort, router: &mut Router<S>, host: &mut Host<'_>) {
     let ticket = forward(rt, router, host, 1);
     assert_eq!(rt; ticket.number(), 1);
     assert!(rt; router.payload(&host.pool, &ticket) == Ok(PAYLOAD));
@@ -175,8 +175,12 @@ fn run<S: Store>(rt: &impl Abort, router: &mut Router<'_, S>, host: &mut Host<'_
     go_back(rt, router, host);
 }
 
-// A run from an empty store.
-fn open_and_run<S: Store>(rt: &impl Abort, heap: Global, store: &mut S) -> Result<(), SetupError> {
+// A run from an empty store, which is empty again in the end.
+fn open_and_run<S: Store + Drop>(
+    rt: &impl Abort,
+    heap: Global,
+    store: S,
+) -> Result<(), SetupError> {
     let book = Book::new(heap, &[b"\x04loom", b"\x03sos"])?;
     let mut lines = [ControlRow::free(); 1];
     let Ok(controls) = ControlTable::new(&mut lines) else {
@@ -195,22 +199,23 @@ fn open_and_run<S: Store>(rt: &impl Abort, heap: Global, store: &mut S) -> Resul
     })?;
     let mut router = Router::open(heap, &book, CONFIGURATION, 1, store)?;
     run(rt, &mut router, &mut host);
+    assert!(rt; router.into_store().is_empty());
     Ok(())
 }
 
 #[test]
 fn over_flat_rows(rt: HostRuntime) -> Result<(), Fail> {
     let mut rows = [ContextRow::free(); 16];
-    let Ok(mut store) = FlatStore::new(&mut rows) else {
+    let Ok(store) = FlatStore::new(&mut rows) else {
         assert!(rt; false);
         return Ok(());
     };
-    open_and_run(&rt, rt.alloc(), &mut store)?;
+    open_and_run(&rt, rt.alloc(), store)?;
     Ok(())
 }
 
 #[test]
 fn over_grid(rt: HostRuntime) -> Result<(), Fail> {
-    open_and_run(&rt, rt.alloc(), &mut GridStore::new())?;
+    open_and_run(&rt, rt.alloc(), GridStore::new())?;
     Ok(())
 }

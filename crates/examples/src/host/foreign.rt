@@ -85,7 +85,8 @@ impl<'a, S: Store> Host<'a, S> {
         }
     }
 
-    // No call takes the ticket. A pool of a wrong length is refused before it, and an output that is too short behind it.
+    // No call takes the ticket. A pool of a wrong length is refused before it, and an output that is too
+    // short behind it.
     fn refuse_ticket(&mut self, tally: &mut Tally<'_>, ticket: Ticket) -> Option<Ticket>
         ensures { IfSome result (λ t. t ≡ ticket) }
     {

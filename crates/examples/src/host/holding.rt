@@ -34,7 +34,7 @@ fn is_failed(answer: Result<usize, Refusal>, output: &[u8], reply: Result<&[u8],
 
 fn end_by_failing<S: Store>(
     tally: &mut Tally<'_>,
-    router: &mut Router<'_, S>,
+    router: &mut Router<S>,
     pool: &[u8],
     output: &mut [u8],
     ticket: Ticket,
@@ -60,7 +60,7 @@ fn end_by_failing<S: Store>(
 // The ticket comes to this end, and no longer is in hand.
 pub(super) fn end<S: Store>(
     tally: &mut Tally<'_>,
-    router: &mut Router<'_, S>,
+    router: &mut Router<S>,
     pool: &[u8],
     output: &mut [u8],
     ticket: Ticket,

@@ -207,8 +207,8 @@ impl<'a, S: Store> Host<'a, S> {
         Ok(())
     }
 
-    // The payload of a message that is accepted is forwarded or goes back. Where it is forwarded, the SMF does not take it, so that no
-    // context stays.
+    // The payload of a message that is accepted is forwarded or goes back. Where it is forwarded, the
+    // SMF does not take it, so that no context stays.
     fn end_accepted(
         &mut self,
         tally: &mut Tally<'_>,

@@ -6,7 +6,7 @@ use router::Router;
 use stores::{Context, PduSession, Store};
 
 // Those of one UE by the session.
-pub(super) fn contexts_of<S: Store>(router: &Router<'_, S>, ue: u32) -> [Option<Context>; 15] {
+pub(super) fn contexts_of<S: Store>(router: &Router<S>, ue: u32) -> [Option<Context>; 15] {
     let mut contexts = [None; 15];
     for (place, id) in contexts.iter_mut().zip(1..16) {
         *place = router.context(PduSession { ue, id });

@@ -159,7 +159,8 @@ const CONGESTED: Example = Example {
                 ..REPLY
             },
             End::Taken,
-        ), // an existing request that names the emergency DNN, and a modification that names one out of the book
+        ),
+        // an existing request that names the emergency DNN, and a modification that names one out of the book
         Step::Receive(
             Sending {
                 message: Message::Octets(

@@ -8,6 +8,6 @@ use Rattle.hall.proofs.Told.{not_called}
 use Rattle.hall.proofs.player.Player.call_line.Goals as goal
 
 pub returns-in-Err : goal.returns-in-Err
-returns-in-Err g c =
+returns-in-Err c =
     IfOk-weaker c.not_done_line.result _ _ (λ s h. not_called c.args.number (called c.args.call.now) c.in-Err.not_done (string_bytes s) h)
     (subst (λ v. IfOk c.not_done_line.result (λ s. TellsDone c.args.number v (reason c.in-Err.not_done) (string_bytes s))) c.verb.ensures c.not_done_line.ensures)

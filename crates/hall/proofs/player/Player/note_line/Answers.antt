@@ -8,6 +8,6 @@ use Rattle.hall.proofs.Told.{told}
 use Rattle.hall.proofs.player.Player.note_line.Goals as goal
 
 pub returns : goal.returns
-returns g c =
+returns c =
     IfOk-weaker c.done_line.result _ _ (λ s h. told c.args.number (note_verb c.args.note) (outcome_of c.enter-done.result) (string_bytes s) h)
     (subst (λ v. IfOk c.done_line.result (λ s. TellsDone c.args.number v (outcome_of c.enter-done.result) (string_bytes s))) c.verb.ensures c.done_line.ensures)

@@ -6,5 +6,5 @@ use Rattle.hall.proofs.Told.{told}
 use Rattle.hall.proofs.player.Player.open_line.Goals as goal
 
 pub returns : goal.returns
-returns g c =
-    IfOk-weaker c.done_line.result _ _ (λ s h. told c.args.number verbs.Open (outcome_of c.want_router-done.result) (string_bytes s) h) c.done_line.ensures
+returns c =
+    IfOk-weaker c.done_line.result _ _ (λ s h. told c.args.number verbs.Open (outcome_of c.open_router-done.result) (string_bytes s) h) c.done_line.ensures
