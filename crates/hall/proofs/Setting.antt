@@ -1,6 +1,7 @@
 -- What comes of setting a control line, from what the table says of it.
 use Rattle.std.proofs.Common.{◌≡◌, ℕ, ◌+◌, ◌≤◌, Bool, true, false, cond, eqb, List, [], ◌∷◌, length, is_some, Some, None, Ok, Err, Option, Result, sym, refl, ap, ◌∙◌, subst, arith, MatchResult}
 use Rattle.std.proofs.lemmas.Bool.{ne_eqb}
+use Rattle.codes.specs.Refusals.{refusal_number, refuse, numbered}
 use Rattle.codes.specs.declared.refusal.Refusal.{Refusal}
 use Rattle.codes.specs.declared.refusal.Refusal.TheVariants.{ControlFull, ControlKind}
 use Rattle.control.specs.Controls.{Set, Full, Setting}
@@ -21,7 +22,7 @@ few_lines (x ∷ xs) = omega (arith, at_most (is_free x) (line_count xs) (length
 
 -- the outcome by whether a line of the key stood, and whether every row has one
 abbrev told : Bool → Bool → Outcome
-told stood full = cond stood Accepted (cond full (Refused ControlFull) Accepted)
+told stood full = cond stood Accepted (cond full (Refused (refusal_number ControlFull)) Accepted)
 
 module _ (k : ControlKey) (xs : List ControlRow) where
   by_tests : (stood full : Bool) → is_some (back_off_of xs k) ≡ stood → eqb (line_count xs) (length xs) ≡ full → set_outcome (Some k) xs ≡ told stood full
@@ -37,5 +38,5 @@ module _ (k : ControlKey) (xs : List ControlRow) where
 
 -- where the table set a line, that is the outcome
 pub set_accepted : (key : Option ControlKey) (b : ℕ) (xs ys : List ControlRow) (r : Result (Unit {0}) Refusal) (u : Unit {0}) → Setting key b xs ys r → r ≡ Ok u → Accepted ≡ set_outcome key xs
-set_accepted None b xs ys r u s e = let z : Err ControlKind ≡ Ok u = sym s.0 ∙ e in cc
+set_accepted None b xs ys r u s e = let z : refuse ControlKind ≡ Ok u = sym s.0 ∙ ap numbered e in cc
 set_accepted (Some k) b xs ys r u s e = set_fits k xs b ys _ refl (subst (λ q. MatchResult q (λ _. Set k b xs ys) (λ e. Full k xs ys e)) e s)

@@ -5,7 +5,6 @@ use Rattle.codes.specs.declared.setup_error.SetupError.{SetupError}
 use Rattle.codes.specs.declared.setup_error.SetupError.TheVariants as setup
 use Rattle.codes.specs.declared.refusal.Refusal.TheVariants.{Opening, ControlKind, ControlFull}
 use Rattle.names.specs.Names.{GoodNames}
-use Rattle.names.specs.OwnNames.{own_names}
 use Rattle.names.specs.declared.book.Book.{Book}
 use Rattle.flat.specs.Held as flat
 use Rattle.control.specs.Controls.{Set, Cleared}
@@ -30,12 +29,12 @@ use Rattle.hall.specs.Changes.{Change, book, store, directory, serve, mark, cont
 -- good names make a book, and all others are refused
 abbrev pub BookOutcome : List (List ℕ) → Outcome → Type 0
 BookOutcome names Accepted = GoodNames names
-BookOutcome names (Refused r) = (refusal_number r ≡ refusal_number Opening) × (GoodNames names → ⊥)
+BookOutcome names (Refused n) = (n ≡ refusal_number Opening) × (GoodNames names → ⊥)
 BookOutcome names Misplaced = ⊥
 
 -- accepted where b, and else refused as out of bounds
 abbrev pub opens : Bool → Outcome
-opens b = cond b Accepted (Refused Opening)
+opens b = cond b Accepted (Refused (refusal_number Opening))
 
 abbrev pub store_outcome : StoreKind → Outcome
 store_outcome (Flat rows) = opens (flat.rows_fit rows)
@@ -47,12 +46,12 @@ refuses (kinds.Turning d) line = sets_refuse (vec_items d.sets) line
 
 -- why a line was not added, b being whether it is one to refuse
 abbrev pub NotAdded : Bool → SetupError → Type 0
-NotAdded b (setup.Refused r) = (b ≡ true) × (r ≡ Opening)
+NotAdded b (setup.Refused r) = (b ≡ true) × (refusal_number r ≡ refusal_number Opening)
 NotAdded b setup.OutOfMemory = b ≡ false
 
 abbrev pub serve_outcome : Option HallDirectory → ServiceLine → Outcome
 serve_outcome None line = Misplaced
-serve_outcome (Some d) line = cond (refuses d line) (Refused Opening) Accepted
+serve_outcome (Some d) line = cond (refuses d line) (Refused (refusal_number Opening)) Accepted
 
 -- it can be opened and closed
 abbrev pub turns : HallDirectory → Bool
@@ -65,14 +64,14 @@ mark_outcome (Some d) = cond (turns d) Accepted Misplaced
 
 -- a key that is new needs a free row
 abbrev pub set_outcome : Option ControlKey → List ControlRow → Outcome
-set_outcome None rows = Refused ControlKind
+set_outcome None rows = Refused (refusal_number ControlKind)
 set_outcome (Some k) rows =
     cond (is_some (back_off_of rows k)) Accepted
-    (cond (line_count rows == length rows) (Refused ControlFull) Accepted)
+    (cond (line_count rows == length rows) (Refused (refusal_number ControlFull)) Accepted)
 
 abbrev pub clear_outcome : Option ControlKey → List ControlRow → Outcome
-clear_outcome None rows = Refused ControlKind
-clear_outcome (Some k) rows = cond (is_some (back_off_of rows k)) Accepted (Refused ControlKind)
+clear_outcome None rows = Refused (refusal_number ControlKind)
+clear_outcome (Some k) rows = cond (is_some (back_off_of rows k)) Accepted (Refused (refusal_number ControlKind))
 
 -- ---- what stands after it
 
@@ -84,7 +83,7 @@ after Misplaced new old = old
 
 abbrev pub has_names : List (List ℕ) → Option Book → Type 0
 has_names names None = ⊥
-has_names names (Some b) = own_names (vec_items b.names) ≡ names
+has_names names (Some b) = b ≡ names
 
 -- a book of just these names, or the one that there was
 abbrev pub BookAfter : List (List ℕ) → Outcome → Option Book → Option Book → Type 0

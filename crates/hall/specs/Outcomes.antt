@@ -1,6 +1,5 @@
 -- What the outcome of a change prints.
 use Rattle.std.specs.Prelude.{◌≡◌, ℕ, List, ◌++◌, length, Some, None, codes, decimal, Option}
-use Rattle.codes.specs.Refusals.{refusal_number}
 use Rattle.hall.specs.declared.change.StoreKind.TheVariants.{Flat, Grid}
 use Rattle.hall.specs.Ends.{Outcome, Accepted, Refused, Misplaced}
 use Rattle.hall.specs.declared.verb.Verb.{Verb}
@@ -36,7 +35,7 @@ refused_line verb n = verb_word verb ++ (codes " refused " ++ decimal n)
 
 abbrev pub outcome_line : ℕ → Change → Outcome → List ℕ
 outcome_line number c Accepted = accepted_line c
-outcome_line number c (Refused r) = refused_line (verb_of c) (refusal_number r)
+outcome_line number c (Refused r) = refused_line (verb_of c) r
 outcome_line number c Misplaced = error_line number
 
 -- s is the line of the outcome, where there is one
@@ -47,7 +46,7 @@ Tells number c (Some o) s = s ≡ outcome_line number c o
 -- the line of what prints its verb alone where it is accepted
 abbrev pub done_line : ℕ → Verb → Outcome → List ℕ
 done_line number verb Accepted = verb_word verb
-done_line number verb (Refused r) = refused_line verb (refusal_number r)
+done_line number verb (Refused r) = refused_line verb r
 done_line number verb Misplaced = error_line number
 
 abbrev pub TellsDone : ℕ → Verb → Option Outcome → List ℕ → Type 0
