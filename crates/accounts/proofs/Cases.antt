@@ -34,6 +34,7 @@ cases = record {
   congested = refl;
   emergency_context = refl;
   emergency_answer = refl;
+  other_answer = refl;
   other_session = refl;
   at_limit = refl;
 }

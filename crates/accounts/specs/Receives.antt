@@ -56,6 +56,10 @@ most_flights = 16
 abbrev pub last_number : ℕ
 last_number = 4294967295
 
+-- so many octets a return has at most beside its payload
+abbrev pub return_overhead : ℕ
+return_overhead = 13
+
 -- x, where the check is passed
 abbrev pub passing : {X : Type 0} → Bool → Refusal → Result X ℕ → Result X ℕ
 passing check e x = cond check x (refuse e)
@@ -72,7 +76,7 @@ reserved s u k x =
 -- the message that was read, or the number of the refusal
 abbrev pub admitted : State → Received → Message → Result Message ℕ
 admitted s r m =
-    passing (nat_le (length m.payload + 13) r.output) OutputLength (reserved s r.ue.number m.session m)
+    passing (nat_le (length m.payload + return_overhead) r.output) OutputLength (reserved s r.ue.number m.session m)
 
 -- the message of a receive that is accepted, or the number of the refusal
 abbrev pub received : Core → State → Received → Result Message ℕ

@@ -15,7 +15,7 @@ use Rattle.stores.specs.declared.context.Context.{Context}
 use Rattle.stores.specs.Contexts.{pair_fits}
 use Rattle.verdicts.specs.declared.decision.Decision.TheVariants.{Establish}
 use Rattle.verdicts.specs.Laws.{answer_of}
-use Rattle.accounts.specs.Receives.{Opening, Received, Answer, answered}
+use Rattle.accounts.specs.Receives.{Opening, Received, Answer, answered, pool_length}
 use Rattle.accounts.specs.Accounts.{Account, Call, receive, taken, failed, contexts_in, state_of, account, failed_octets}
 
 -- ---- the core
@@ -68,7 +68,7 @@ return_with end =
 
 -- octets that UE 5 sends, with whole buffers, no control line and the list directory
 abbrev pub sent : List ℕ → Received
-sent octets = record { ue = ue 15; back_off = no_line; is_open = true; serves = lines_serve lines; pool = 32768; output = 4096; octets = octets }
+sent octets = record { ue = ue 15; back_off = no_line; is_open = true; serves = lines_serve lines; pool = pool_length; output = 4096; octets = octets }
 
 -- over another directory
 abbrev pub over : Bool → (ℕ → ℕ → ℕ → Bool) → Received → Received
@@ -114,6 +114,13 @@ initial = sent sample
 abbrev pub forward : Call
 forward = receive initial (Some 7)
 
+-- the same for session 2, from a UE that may have one session
+abbrev pub second : Received
+second = limited 1 (sent (with_end (0x12 ∷ 0x02 ∷ 0x81 ∷ [])))
+
+abbrev pub forward_second : Call
+forward_second = receive second (Some 7)
+
 pub record TenCases : Type 0 where
   -- the list directory chooses SMF 7
   pub list_chooses : (m : Option ℕ) → Chosen true (lines_serve lines common.slice common.dnn) (takes_first lines common.slice common.dnn) (answer_of true m) → m ≡ Some 7
@@ -139,6 +146,7 @@ pub record TenCases : Type 0 where
   -- 9: an initial emergency request goes to the static SMF
   pub emergency_context : contexts_in (done (receive (sent (with_end (0x12 ∷ 0x01 ∷ 0x83 ∷ []))) None ∷ [])) ≡ context 1 9 true emergency ∷ []
   pub emergency_answer : answer_after [] (sent (with_end (0x12 ∷ 0x01 ∷ 0x83 ∷ []))) None ≡ Ok (record { number = 1; old_session = None; request = Some 3; verdict = record { used = emergency; decision = Establish 9 true; release = None }; octets = [] })
-  -- 10: a UE that may have one session, and has session 2
-  pub other_session : contexts_in (done (taken 1 ∷ receive (limited 1 (sent (with_end (0x12 ∷ 0x02 ∷ 0x81 ∷ [])))) (Some 7) ∷ [])) ≡ context 2 7 false common ∷ []
-  pub at_limit : written_after (taken 1 ∷ receive (limited 1 (sent (with_end (0x12 ∷ 0x02 ∷ 0x81 ∷ [])))) (Some 7) ∷ []) (limited 1 initial) None ≡ Ok (return_with (0x41 ∷ []))
+  -- 10: a UE that may have one session sends it for session 2, which the SMF takes, and then for session 1
+  pub other_answer : answer_after [] second (Some 7) ≡ forwarded 1 7 None
+  pub other_session : contexts_in (done (taken 1 ∷ forward_second ∷ [])) ≡ context 2 7 false common ∷ []
+  pub at_limit : written_after (taken 1 ∷ forward_second ∷ []) (limited 1 initial) None ≡ Ok (return_with (0x41 ∷ []))

@@ -2,7 +2,8 @@
 ghost use Rattle.std.specs.Prelude.{◌≡◌};
 ghost use Rattle.codes.specs.Causes.{cause_number, back_off_octet};
 
-// The congestion causes carry the octet that says how long to back off.
+/// A 5GMM cause (TS 24.501 clause 9.11.3.2). The congestion causes carry the octet that says how long to back off, as
+/// the element writes it (GPRS timer 3, clause 9.11.2.5 of the same).
 #[derive(Clone, Copy, Debug, PartialEq, Eq)]
 pub enum Cause {
     /// Congestion control for the DNN.
@@ -19,6 +20,7 @@ pub enum Cause {
     DnnNotSupported,
 }
 
+/// The number that stands in the message.
 impl From<Cause> for u8 {
     ghost from_gives = { λ c n. n ≡ cause_number c };
 
@@ -35,7 +37,7 @@ impl From<Cause> for u8 {
 }
 
 impl Cause {
-    // The back-off octet, where the cause has one.
+    /// The back-off octet, where the cause has one.
     pub fn back_off(self) -> Option<u8>
         ensures { result ≡ back_off_octet self }
     {

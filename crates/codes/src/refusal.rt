@@ -2,6 +2,7 @@
 ghost use Rattle.std.specs.Prelude.{◌≡◌};
 ghost use Rattle.codes.specs.Refusals.{refusal_number};
 
+/// Why a call was not carried out, by a number that never changes. A lack of memory is none of these.
 #[derive(Clone, Copy, Debug, PartialEq, Eq)]
 pub enum Refusal {
     /// The UE record, or one of its lines, is out of bounds.
@@ -46,7 +47,7 @@ pub enum Refusal {
     ControlFull = 20,
 }
 
-// The number that the host gets.
+/// The number that the host gets: 1 to 20.
 impl From<Refusal> for u8 {
     ghost from_gives = { λ e n. n ≡ refusal_number e };
 

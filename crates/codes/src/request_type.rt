@@ -4,6 +4,7 @@ ghost use Rattle.codes.specs.RequestTypes.{request_number, NumberedAs};
 
 use crate::refusal::Refusal;
 
+/// What a UE asks for with a payload, by the request type's number (TS 24.501 clause 9.11.3.47).
 #[derive(Clone, Copy, Debug, PartialEq, Eq)]
 pub enum RequestType {
     /// A new PDU session.
@@ -26,7 +27,7 @@ impl From<RequestType> for u8 {
     }
 }
 
-// A number that is no request type's is refused as an unknown request.
+/// A number that is no request type's is refused as an unknown request.
 impl TryFrom<u8> for RequestType {
     type Error = Refusal;
 

@@ -5,8 +5,10 @@ ghost use Rattle.codes.specs.declared.setup_error.SetupError.TheVariants.{Refuse
 use crate::refusal::Refusal;
 use std::alloc::{AllocError, AllocFailed};
 
+/// Why something was not made: it was refused, or there is no memory for it.
 #[derive(Clone, Copy, Debug, PartialEq, Eq)]
 pub enum SetupError {
+    /// What was asked for cannot be made.
     Refused(Refusal),
     /// There is no memory for what was to be made. It is no refusal, and has no number.
     OutOfMemory,
@@ -28,7 +30,7 @@ impl From<AllocError> for SetupError {
     }
 }
 
-// What could not be stored is dropped.
+/// What could not be stored is dropped.
 impl<T: Drop> From<AllocFailed<T>> for SetupError {
     ghost from_gives = { λ _ r. r ≡ OutOfMemory };
 

@@ -4,6 +4,7 @@ use Rattle.std.specs.Option.{ok_or}
 use Rattle.std.proofs.lemmas.Bool.{cases_Bool, true≢false}
 use Rattle.codes.specs.declared.refusal.Refusal.{Refusal}
 use Rattle.codes.specs.declared.refusal.Refusal.TheVariants.{ControlKind, ControlFull}
+use Rattle.codes.specs.Refusals.{refusal_number}
 use Rattle.std.specs.List.{find}
 use Rattle.tables.specs.Rows.{Absent, First, Target, Apart, AllFree}
 use Rattle.tables.specs.declared.table.TableFull.{TableFull}
@@ -26,7 +27,7 @@ pub is_same : (a b : ControlKey) → a ≡ b → same_key a b ≡ true
 is_same a b e = search rules
 
 -- the key that numbers gave
-pub key_known : (o : Option ControlKey) (k : ControlKey) → Ok k ≡ ok_or o ControlKind → o ≡ Some k
+pub key_known : (o : Option ControlKey) (k : ControlKey) → Ok k ≡ ok_or o (refusal_number ControlKind) → o ≡ Some k
 key_known o k e = search rules
 
 -- ---- rows

@@ -1,5 +1,6 @@
 -- What control lines are about: their kinds by number, and which keys are the same.
 use Rattle.std.specs.Prelude.{ℕ, Bool, false, cond, ◌&&◌, Some, None, Option, ◌==◌}
+use Rattle.control.specs.declared.control_numbers.ControlNumbers.{ControlNumbers}
 use Rattle.control.specs.declared.control_key.ControlKey.{ControlKey}
 use Rattle.control.specs.declared.control_key.ControlKey.TheVariants.{Dnn, SliceAndDnn, Slice}
 
@@ -7,6 +8,9 @@ use Rattle.control.specs.declared.control_key.ControlKey.TheVariants.{Dnn, Slice
 abbrev pub key_in : ℕ → ℕ → ℕ → Option ControlKey
 key_in kind s n =
     cond (kind == 1) (Some (Dnn n)) (cond (kind == 2) (Some (SliceAndDnn s n)) (cond (kind == 3) (Some (Slice s)) None))
+
+abbrev pub key_for : ControlNumbers → Option ControlKey
+key_for n = key_in n.kind n.slice n.dnn
 
 abbrev pub same_key : ControlKey → ControlKey → Bool
 same_key (Dnn n) (Dnn m) = n == m

@@ -1,5 +1,5 @@
 -- The rows of a control table, and the lines in them.
-use Rattle.std.specs.Prelude.{ℕ, Bool, false, cond, not, ◌&&◌, List, is_some, Some, None, Option, nat_lt}
+use Rattle.std.specs.Prelude.{ℕ, Bool, false, cond, not, ◌&&◌, List, is_some, Some, None, Option, nat_le, nat_lt}
 use Rattle.std.specs.List.{find}
 use Rattle.tables.specs.Lists.{sum_of}
 use Rattle.control.specs.declared.control_key.ControlKey.{ControlKey}
@@ -39,6 +39,10 @@ back_off_of xs k = octet_in (find (row_has k) xs)
 abbrev pub line_count : List ControlRow → ℕ
 line_count xs = sum_of (λ x. cond (is_free x) 0 1) xs
 
+-- how many rows a control table has at most
+abbrev pub max_rows : ℕ
+max_rows = 64
+
 -- how many rows a control table may have
 abbrev pub rows_fit : ℕ → Bool
-rows_fit n = nat_lt 0 n && nat_lt n 65
+rows_fit n = nat_lt 0 n && nat_le n max_rows

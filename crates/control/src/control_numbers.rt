@@ -1,7 +1,7 @@
 // What a control line is about, told by numbers.
 use codes::{DnnNumber, SliceCode};
 
-// The kind is a number and may be one that there is not, since it is for the call itself to refuse that.
+/// What a control line is about, told by numbers. The kind may be one that there is not: the call refuses that.
 #[derive(Clone, Copy, Debug, PartialEq, Eq)]
 pub struct ControlNumbers {
     pub kind: u8,

@@ -5,14 +5,14 @@ ghost use Rattle.control.specs.Octets.{Holds, octet_of};
 use crate::control_key::ControlKey;
 use crate::control_line::ControlLine;
 
-// One type with the flat store's row would be no plainer: its context would need a type around it for its ghost field.
+/// A row of a control table, which the host lends.
 #[derive(Clone, Copy)]
 pub struct ControlRow {
     pub(crate) held: Option<ControlLine>,
 }
 
 impl ControlRow {
-    // A free row.
+    /// A free row.
     pub fn free() -> ControlRow
         ensures { result.held ≡ None }
     {

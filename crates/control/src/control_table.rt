@@ -1,7 +1,8 @@
 // The control lines of a core, at most one for each key, in rows that are lent to it.
-ghost use Rattle.std.specs.Prelude.{◌≡◌, Ok, Err, if◌then◌else◌, true, false, length, MatchResult};
+ghost use Rattle.std.specs.Prelude.{◌≡◌, Ok, if◌then◌else◌, length, is_ok, IfOk, IfErr};
 ghost use Rattle.codes.specs.declared.refusal.Refusal.TheVariants.{Opening};
-ghost use Rattle.control.specs.Keys.{key_in};
+ghost use Rattle.codes.specs.Refusals.{refusal_number, refuse, numbered};
+ghost use Rattle.control.specs.Keys.{key_for};
 ghost use Rattle.control.specs.Lines.{back_off_of, rows_fit};
 ghost use Rattle.control.specs.Controls.{Empty, Setting, Clearing};
 
@@ -12,6 +13,10 @@ use codes::{HandedBack, Refusal};
 use std::marker::Model;
 use tables::Table;
 
+/// How many rows a table has at most.
+pub const MAX_ROWS: usize = 64;
+
+/// The control lines of a core, at most one for each key, in 1 to 64 rows that the host lends.
 #[derive(Drop)]
 pub struct ControlTable<'a> {
     table: Table<'a, ControlRow>,
@@ -28,22 +33,26 @@ impl<'a> Model for ControlTable<'a> {
 }
 
 impl<'a> ControlTable<'a> {
-    // Whether a table can have so many rows. One function over both bounds would be no shorter, as the test is one line.
+    /// Whether a table can have so many rows: 1 to 64. Others are refused as out of bounds.
     pub fn check_rows(count: usize) -> Result<(), Refusal>
-        ensures { result ≡ (if rows_fit count then Ok tt else Err Opening) }
+        ensures { numbered result ≡ (if rows_fit count then Ok tt else refuse Opening) }
     {
-        if !(1..=64).contains(&count) {
+        if !(1..=MAX_ROWS).contains(&count) {
             return Err(Refusal::Opening);
         }
         Ok(())
     }
 
-    // An empty table over 1 to 64 rows. Others are handed back as they were.
+    /// A table with no lines, over 1 to 64 rows. Others are refused as out of bounds, and handed back as they were.
     #[tactic(auto, using(crate::proofs::Keyed::free_back_off, crate::proofs::Keyed::free_count))]
     pub fn new(
         rows: &'a mut [ControlRow],
     ) -> Result<ControlTable<'a>, HandedBack<&'a mut [ControlRow]>>
-        ensures { MatchResult result (λ t. (rows_fit (length rows.old) ≡ true) × (length t ≡ length rows.old) × Empty t) (λ h. (rows_fit (length rows.old) ≡ false) × (h.refusal ≡ Opening) × (h.value ≡ rows.entry)) }
+        ensures made { is_ok result ≡ rows_fit (length rows.old) }
+        ensures size { IfOk result (λ t. length t ≡ length rows.old) }
+        ensures empty { IfOk result Empty }
+        ensures refused { IfErr result (λ h. refusal_number h.refusal ≡ refusal_number Opening) }
+        ensures handed_back { IfErr result (λ h. h.value ≡ rows.entry) }
     {
         if let Err(refusal) = ControlTable::check_rows(rows.len()) {
             return Err(HandedBack {
@@ -56,7 +65,7 @@ impl<'a> ControlTable<'a> {
         })
     }
 
-    // The back-off octet of the line of this key.
+    /// The back-off octet of the line of this key.
     #[tactic(auto, using(crate::proofs::Keyed::none_back_off, crate::proofs::Keyed::first_back_off))]
     pub fn back_off(&self, key: ControlKey) -> Option<u8>
         ensures { result ≡ back_off_of self.now key }
@@ -64,9 +73,10 @@ impl<'a> ControlTable<'a> {
         self.table.find(&key).and_then(|row| row.back_off())
     }
 
-    // A line of this key: in the place of the one that there is, or one more.
+    /// A line of this key: in the place of the one that there is, or one more. A kind that is not 1 to 3 is refused, and
+    /// a new key where every row has a line; the table is then as it was.
     pub fn set(&mut self, numbers: ControlNumbers, back_off: u8) -> Result<(), Refusal>
-        ensures { Setting (key_in numbers.kind numbers.slice numbers.dnn) back_off self.old self.new result }
+        ensures { Setting (key_for numbers) back_off self.old self.new result }
     {
         let key = ControlKey::try_from(numbers)?;
         self.table
@@ -74,9 +84,10 @@ impl<'a> ControlTable<'a> {
             .map_err(|_| Refusal::ControlFull)
     }
 
-    // Leaves no line of this key.
+    /// Takes the line of this key out. A kind that is not 1 to 3 is refused, and a key with no line, by the same refusal;
+    /// the table is then as it was.
     pub fn clear(&mut self, numbers: ControlNumbers) -> Result<(), Refusal>
-        ensures { Clearing (key_in numbers.kind numbers.slice numbers.dnn) self.old self.new result }
+        ensures { Clearing (key_for numbers) self.old self.new result }
     {
         let key = ControlKey::try_from(numbers)?;
         if !self.table.remove(&key) {

@@ -11,4 +11,4 @@ mod row_key;
 pub use control_key::ControlKey;
 pub use control_numbers::ControlNumbers;
 pub use control_row::ControlRow;
-pub use control_table::ControlTable;
+pub use control_table::{ControlTable, MAX_ROWS};

@@ -1,6 +1,14 @@
 -- DNN names: when two are the same, which ones a book can have, and how a book numbers them.
 use Rattle.std.specs.Prelude.{◌≡◌, ℕ, suc, ◌+◌, ◌-◌, ◌<◌, ◌≤◌, Bool, true, false, cond, ◌&&◌, List, [], ◌∷◌, map, take, length, Some, None, Option, Decides, ◌==◌, slice_index_or}
 
+-- how many names a book has at most
+abbrev pub max_names : ℕ
+max_names = 64
+
+-- how many octets the longest name has
+abbrev pub max_name : ℕ
+max_name = 100
+
 abbrev pub same_octet : ℕ → ℕ → Bool
 same_octet x y = x == y
 
@@ -22,7 +30,7 @@ names_of f ns = map f ns
 
 -- each has 1 to 100 octets
 abbrev pub Sized : List (List ℕ) → Type 0
-Sized names = (i : ℕ) → i < length names → (0 < length (slice_index_or names i [])) × (length (slice_index_or names i []) ≤ 100)
+Sized names = (i : ℕ) → i < length names → (0 < length (slice_index_or names i [])) × (length (slice_index_or names i []) ≤ max_name)
 
 -- no two are the same
 abbrev pub Apart : List (List ℕ) → Type 0
@@ -32,14 +40,14 @@ Apart names =
 -- names that a book can have
 pub record GoodNames (names : List (List ℕ)) : Type 0 where
   pub some : 0 < length names
-  pub few : length names ≤ 64
+  pub few : length names ≤ max_names
   pub sized : Sized names
   pub apart : Apart names
 
 -- a name that can follow these in a book
 pub record Follows (earlier : List (List ℕ)) (name : List ℕ) : Type 0 where
   pub some : 0 < length name
-  pub few : length name ≤ 100
+  pub few : length name ≤ max_name
   pub new : (i : ℕ) → i < length earlier → same_name (slice_index_or earlier i []) name ≡ false
 
 -- the name at place i can follow those before it

@@ -1,14 +1,19 @@
 // The book of DNN names, which numbers them from 1.
-ghost use Rattle.std.specs.Prelude.{◌≡◌, ◌<◌, length, IfOk, Decides, MatchResult};
-ghost use Rattle.names.specs.Names.{names_of, Numbers, Follows, FollowsEarlier, GoodNames};
+ghost use Rattle.std.specs.Prelude.{◌≡◌, ◌<◌, ◌≤◌, length, IfOk, IfErr, Decides};
+ghost use Rattle.names.specs.Names.{max_names, names_of, Numbers, Follows, FollowsEarlier, GoodNames};
 ghost use Rattle.names.specs.OwnNames.{own_names, lent_names, Made, Unmade};
 
-use crate::name::{Name, place_in};
+use crate::name::{MAX_NAME, Name, place_in};
 use codes::{DnnNumber, Refusal, SetupError};
 use std::alloc::{AllocError, Global};
 use std::convert::AsSlice;
 use std::marker::Model;
 
+/// How many names a book has at most.
+pub const MAX_NAMES: usize = 64;
+
+/// The DNN names that a core knows, numbered from 1 in their order: 1 to 64 names of 1 to 100 octets each, of which no
+/// two are the same. Their form is that of TS 23.003 clause 9.1, which is not judged.
 #[derive(Drop)]
 pub struct Book {
     names: Vec<Name>,
@@ -31,7 +36,7 @@ impl Model for Book {
 fn follows(earlier: &[&[u8]], name: &[u8]) -> bool
     ensures { Decides result (Follows (lent_names earlier.now) name.now) }
 {
-    !name.is_empty() && name.len() <= 100 && place_in(earlier, name).is_none()
+    !name.is_empty() && name.len() <= MAX_NAME && place_in(earlier, name).is_none()
 }
 
 // Whether the name at a place can follow those before it.
@@ -47,7 +52,7 @@ fn good_names(names: &[&[u8]]) -> bool
     ensures { Decides result (GoodNames (lent_names names.now)) }
 {
     !names.is_empty()
-        && names.len() <= 64
+        && names.len() <= MAX_NAMES
         && (0..names.len()).all(|place| follows_earlier(names, place))
 }
 
@@ -70,9 +75,11 @@ fn copy_names<N: AsSlice<u8>>(heap: Global, names: &[N]) -> Result<Vec<Name>, Al
 }
 
 impl Book {
-    // The names are checked before any memory is asked for.
+    /// A book of these names, which it copies. Names that no book can have are refused as out of bounds, before any
+    /// memory is asked for; else only a lack of memory is an error.
     pub fn new(heap: Global, names: &[&[u8]]) -> Result<Book, SetupError>
-        ensures { MatchResult result (λ b. Made (lent_names names.now) b) (λ e. Unmade (lent_names names.now) e) }
+        ensures made { IfOk result (Made (lent_names names.now)) }
+        ensures unmade { IfErr result (Unmade (lent_names names.now)) }
     {
         if !good_names(names) {
             return Err(SetupError::from(Refusal::Opening));
@@ -81,14 +88,14 @@ impl Book {
         Ok(Book { names })
     }
 
-    // The number of the name that is the same, or 0, which stands for a name that is not in the book.
+    /// The number of the name that is the same, or 0, which stands for a name that is not in the book.
     pub fn number_of(&self, octets: &[u8]) -> DnnNumber
         ensures { Numbers self.now octets.now result }
     {
         place_in(self.names.as_slice(), octets).map_or(0, |i| (i + 1) as DnnNumber)
     }
 
-    // A book of its own with the same names.
+    /// A book of its own with the same names. Only a lack of memory is an error.
     pub fn try_clone(&self, heap: Global) -> Result<Book, AllocError>
         ensures same { IfOk result (λ b. b ≡ self.now) }
         ensures good { IfOk result (λ b. GoodNames b) }
@@ -97,9 +104,10 @@ impl Book {
         Ok(Book { names })
     }
 
-    // How many names there are.
+    /// How many names there are, which is never 0.
     pub fn len(&self) -> usize
-        ensures { result ≡ length self.now }
+        ensures value { result ≡ length self.now }
+        ensures bounds { (0 < result) × (result ≤ max_names) }
     {
         self.names.len()
     }

@@ -4,5 +4,5 @@
 mod book;
 mod name;
 
-pub use book::Book;
-pub use name::same_name;
+pub use book::{Book, MAX_NAMES};
+pub use name::{MAX_NAME, same_name};

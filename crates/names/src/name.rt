@@ -4,6 +4,9 @@ ghost use Rattle.names.specs.Names.{same_octet, Same, Numbers, names_of, numbere
 
 use std::convert::AsSlice;
 
+/// How many octets the longest name has (TS 23.003 clause 9.1).
+pub const MAX_NAME: usize = 100;
+
 // Whether two octets are the same in a name.
 fn same_octet(a: u8, b: u8) -> bool
     ensures { result ≡ same_octet a b }
@@ -11,7 +14,8 @@ fn same_octet(a: u8, b: u8) -> bool
     a == b
 }
 
-// Whether two names are the same. Everything that compares names goes by this, and by no `==`, so that the rule for octets stands in one place.
+/// Whether two DNN names are the same, which they are octet by octet. Whatever compares names goes by this and by no
+/// `==`, so that the rule for octets stands in one place.
 pub fn same_name(a: &[u8], b: &[u8]) -> bool
     ensures { Same a.now b.now result }
 {

@@ -5,7 +5,7 @@ use Rattle.std.specs.Option.{option_map}
 use Rattle.codes.specs.declared.refusal.Refusal.TheVariants.{Overrun}
 use Rattle.nas.specs.Elements.{octet, session_kind}
 use Rattle.codes.specs.Refusals.{refuse}
-use Rattle.nas.specs.Uplinks.{Parts, Message, session_id, old_session_id, s_nssai, dnn_name, request_kind, request_bits, slice_length, slice_code, dnn_length, judged, read}
+use Rattle.nas.specs.Uplinks.{Parts, Message, session_id, old_session_id, s_nssai, dnn_name, request_kind, request_bits, slice_length, slice_code, dnn_length, max_payload, judged, read}
 
 -- an information element: its first octet, and its contents
 pub record Ie : Type 0 where
@@ -49,7 +49,7 @@ firsts es = record {
 -- a payload and elements that a message can have: of S-NSSAI and DNN, the first one's length is right
 pub record WellFormed (payload : List ℕ) (es : List Ie) : Type 0 where
   pub some : 0 < length payload
-  pub few : length payload ≤ 2048
+  pub few : length payload ≤ max_payload
   pub each : AllByRecursion Formed es
   pub slice : (e : Ie) → first_of s_nssai es ≡ Some e → slice_length (length e.contents) ≡ true
   pub dnn : (e : Ie) → first_of dnn_name es ≡ Some e → dnn_length (length e.contents) ≡ true

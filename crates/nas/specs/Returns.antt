@@ -1,10 +1,14 @@
 -- The octets of a return, and what writing one does.
-use Rattle.std.specs.Prelude.{◌≡◌, ℕ, ◌+◌, ◌/◌, ◌%◌, cond, ◌&&◌, List, [], ◌∷◌, ◌++◌, length, take, drop, Some, None, Ok, Err, Option, Result, nat_lt}
+use Rattle.std.specs.Prelude.{◌≡◌, ℕ, ◌+◌, ◌/◌, ◌%◌, cond, ◌&&◌, List, [], ◌∷◌, ◌++◌, length, take, drop, Some, None, Ok, Err, Option, Result, nat_le, nat_lt}
 use Rattle.codes.specs.declared.cause.Cause.{Cause}
 use Rattle.codes.specs.declared.refusal.Refusal.TheVariants.{PayloadLength, SessionBounds, OutputLength}
 use Rattle.codes.specs.Causes.{cause_number, back_off_octet}
 use Rattle.codes.specs.Refusals.{refuse}
-use Rattle.nas.specs.Uplinks.{in_range}
+use Rattle.nas.specs.Uplinks.{in_range, max_payload}
+
+-- how many octets a return takes besides its payload, with the longest cause
+abbrev pub return_overhead : ℕ
+return_overhead = 13
 
 abbrev pub return_header : List ℕ
 return_header = 0x7E ∷ 0x00 ∷ 0x68 ∷ 0x01 ∷ []
@@ -25,9 +29,9 @@ overwritten xs i ys = take i xs ++ (ys ++ drop (i + length ys) xs)
 -- the length of the return, or why it is not written
 abbrev pub return_length : List ℕ → List ℕ → ℕ → Cause → Result ℕ ℕ
 return_length output payload session cause =
-    cond (nat_lt 0 (length payload) && nat_lt (length payload) 2049)
+    cond (nat_lt 0 (length payload) && nat_le (length payload) max_payload)
     (cond (in_range session)
-    (cond (nat_lt (length output) (length payload + 13)) (refuse OutputLength) (Ok (length (returned payload session cause))))
+    (cond (nat_lt (length output) (length payload + return_overhead)) (refuse OutputLength) (Ok (length (returned payload session cause))))
     (refuse SessionBounds))
     (refuse PayloadLength)
 

@@ -3,6 +3,7 @@ use Rattle.std.specs.Prelude.{ℕ, zero, suc, ◌+◌, ◌*◌, ◌%◌, Bool, t
 use Rattle.codes.specs.declared.refusal.Refusal.TheVariants.{Overrun, Header, PayloadType, PayloadLength, ElementLength, SessionBounds, UnknownRequest}
 use Rattle.codes.specs.Refusals.{refuse}
 use Rattle.codes.specs.RequestTypes.{request_in}
+use Rattle.names.specs.Names.{max_name}
 use Rattle.nas.specs.Elements.{octet, pair, element}
 
 -- x is handed on to f, unless it is refused
@@ -61,7 +62,7 @@ abbrev pub slice_in : List ℕ → Result ℕ ℕ
 slice_in c = cond (slice_length (length c)) (Ok (slice_code c)) (refuse ElementLength)
 
 abbrev pub dnn_length : ℕ → Bool
-dnn_length n = nat_lt 0 n && nat_lt n 101
+dnn_length n = nat_lt 0 n && nat_le n max_name
 
 abbrev pub dnn_in : List ℕ → Result (List ℕ) ℕ
 dnn_in c = cond (dnn_length (length c)) (Ok c) (refuse ElementLength)
@@ -135,13 +136,17 @@ judged_at payload p (Some s) =
 abbrev pub judged : List ℕ → Parts → Result Message ℕ
 judged payload p = judged_at payload p p.session
 
+-- how many octets the longest payload has
+abbrev pub max_payload : ℕ
+max_payload = 2048
+
 -- the payload's length
 abbrev pub header : List ℕ → Result ℕ ℕ
 header xs =
     cond (nat_lt (length xs) 7) (refuse Overrun)
     (cond (octet xs 0 == 0x7E && (octet xs 1 % 16 == 0 && octet xs 2 == 0x67))
     (cond (octet xs 3 % 16 == 1)
-    (cond (nat_lt 0 (pair (drop 4 xs)) && nat_lt (pair (drop 4 xs)) 2049)
+    (cond (nat_lt 0 (pair (drop 4 xs)) && nat_le (pair (drop 4 xs)) max_payload)
     (cond (nat_lt (length xs) (6 + pair (drop 4 xs))) (refuse Overrun) (Ok (pair (drop 4 xs))))
     (refuse PayloadLength))
     (refuse PayloadType))

@@ -2,6 +2,7 @@
 ghost use Rattle.std.specs.Prelude.{◌≡◌, ◌≤◌, length};
 ghost use Rattle.nas.specs.Views.{decoded};
 ghost use Rattle.runs.specs.Calls.{new_flight};
+ghost use Rattle.runs.specs.Models.{slot_length};
 
 use codes::UeNumber;
 use flights::{Flight, Mark};
@@ -19,7 +20,7 @@ pub(crate) struct Admission<'m> {
 impl<'m> Admission<'m> {
     // What it is once it is forwarded, with or without a context that is put for it.
     pub(crate) fn flight(&self, ue: UeNumber, establishes: bool) -> Flight
-        requires { length self.now.uplink.payload.now ≤ 2048 }
+        requires { length self.now.uplink.payload.now ≤ slot_length }
         ensures { result ≡ new_flight self.now.number ue (decoded self.now.uplink) establishes }
     {
         Flight {

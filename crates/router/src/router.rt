@@ -1,4 +1,4 @@
-// The router: what is in flight, and the store of contexts, which only the router writes while it has it.
+// The router: what is in flight, and the store of contexts, which it owns.
 ghost use Rattle.std.specs.Prelude.{◌≡◌, true, length};
 ghost use Rattle.names.specs.Names.{GoodNames};
 ghost use Rattle.records.specs.Configurations.{configuration_fits};
@@ -20,6 +20,8 @@ use records::{Configuration, UeRecord};
 use std::alloc::Global;
 use stores::{Context, PduSession, Store};
 
+/// Takes the UL NAS TRANSPORT messages of UEs, finds the routing context of each PDU session, and
+/// forwards the payload to an SMF or returns it with a cause. What a call refuses changes nothing.
 #[derive(Drop)]
 pub struct Router<S: Store> {
     store: S,
@@ -34,30 +36,38 @@ pub struct Router<S: Store> {
 }
 
 impl<S: Store> Router<S> {
-    ghost use Rattle.std.specs.Prelude.{◌≡◌, ℕ, ◌<◌, List, IfErr, MatchResult, take, [], ◌∷◌, length, IfOk, true};
-    ghost use Rattle.accounts.specs.Receives.{Opening};
-    ghost use Rattle.nas.specs.Uplinks.{read};
-    ghost use Rattle.nas.specs.Views.{octets};
+    ghost use Rattle.std.specs.Prelude.{◌≡◌, IfErr, MatchResult, IfOk, OnErr, true};
     ghost use Rattle.router.specs.Buffers.{FrontWritten};
-    ghost use Rattle.router.specs.Openings.{Begins, opening, opening_fits, NotOpened};
-    ghost use Rattle.router.specs.Receiving.{heard, DoesReceive, receive_entry, asks, Consulted, answer_in, chosen_in, ticket_of, handed_by, IsOpen, OutputAfter};
-    ghost use Rattle.router.specs.Views.{Lawful, LawfulWith, LawfulOver, model, token, handed, shown};
-    ghost use Rattle.runs.specs.Calls.{HandsOut, Takes, Fails, Parks, Picks, Receives, Releases};
-    ghost use Rattle.runs.specs.Laws.{Extends};
-    ghost use Rattle.runs.specs.Entries as entry;
-    ghost use Rattle.runs.specs.Runs.{IsHanded, Opened, pool_after};
-    ghost use Rattle.stores.specs.Contexts.{fits, lookup};
+    ghost use Rattle.router.specs.Calls.{DoesPayload, DoesTaken, DoesFailed, DoesPark, DoesPick, DoesReleased};
+    ghost use Rattle.router.specs.Calls.{payload_entry, taken_entry, failed_entry, park_entry, pick_entry, released_entry};
+    ghost use Rattle.router.specs.Openings.{opening, opening_fits, IsOpened, BeginsIn, OpensIf};
+    ghost use Rattle.router.specs.Receiving.{heard, DoesReceive, receive_entry, IsOpen, OutputAfter, DirectoryAfter};
+    ghost use Rattle.router.specs.Views.{model, store_of, contexts_of, Lawful, LawfulWith, LawfulOver, Accounted};
+    ghost use Rattle.stores.specs.Contexts.{lookup};
 
-    // The context of a session.
+    /// The context of a session, if one stands; none for a UE or session out of bounds.
     pub fn context(&self, session: PduSession) -> Option<Context>
-        ensures { result ≡ lookup (S.Store.contexts self.now.store) session.ue session.id }
+        ensures { result ≡ lookup (contexts_of self.now) session.ue session.id }
     {
         self.store.find(session)
     }
 
+    /// Gives the store back as it is, with the contexts that stand. The router is gone then: a
+    /// ticket that is still held can no longer be given back, so a host ends or parks its tickets
+    /// first.
+    pub fn into_store(self) -> S
+        ensures store { result ≡ store_of self }
+        ensures account { Accounted self result }
+    {
+        let Router { store, .. } = self;
+        store
+    }
+
     // ---- the calls, with the law over all runs
 
-    // A router over an empty store, which it alone writes from now on. The book is copied.
+    /// A router over an empty store, which it owns from now on. The book is copied. It is refused
+    /// where a DNN number of the configuration is not in the book, the first ticket number is 0, or
+    /// a context stands; the store is handed back then, and where memory is wanting.
     pub fn open(
         heap: Global,
         book: &Book,
@@ -65,15 +75,18 @@ impl<S: Store> Router<S> {
         first: u32,
         store: S,
     ) -> Result<Router<S>, Unopened<S>>
-        ensures opened { IfOk result (λ r. (p : List ℕ) → Opened (opening book.now configuration first) (model r p)) }
-        ensures begins { IfOk result (λ r. (p : List ℕ) → Begins (opening book.now configuration first) (model r p)) }
-        ensures fits { MatchResult result (λ r. opening_fits (opening book.now configuration first) (S.Store.contexts store) ≡ true) (λ u. NotOpened (opening_fits (opening book.now configuration first) (S.Store.contexts store)) u.error) }
-        ensures store { MatchResult result (λ r. r.store ≡ store) (λ u. u.store ≡ store) }
+        ensures opened { IfOk result (IsOpened (opening book.now configuration first)) }
+        ensures begins { IfOk result (BeginsIn (opening book.now configuration first)) }
+        ensures fits { OpensIf
+            (opening_fits (opening book.now configuration first) (S.Store.contexts store)) result }
+        ensures store { MatchResult result (λ r. store_of r ≡ store) (λ u. u.store ≡ store) }
     {
         Router::begin(heap, book, configuration, first, store)
     }
 
-    // A message of a UE: it is forwarded to an SMF, or goes back with a cause.
+    /// A message of a UE (UL NAS TRANSPORT, 3GPP TS 24.501, 8.2.10): its payload is forwarded to an
+    /// SMF, or goes back with a cause. `pool` has [`POOL_LENGTH`](crate::POOL_LENGTH) octets, and
+    /// `output` room for the payload and 13 octets more. A refusal changes nothing.
     pub fn receive<D: Directory>(
         &mut self,
         ue: UeRecord<'_>,
@@ -83,78 +96,88 @@ impl<S: Store> Router<S> {
         output: &mut [u8],
         message: &[u8],
     ) -> Result<Answer, Refusal>
-        ensures does {
-            let r = heard D.Directory ue.entry controls.now directory.old pool.old output.old message.now in
-            DoesReceive (model self.old pool.old) r output.new result (model self.new pool.new)
-        }
-        ensures lawful {
-            let r = heard D.Directory ue.entry controls.now directory.old pool.old output.old message.now in
-            LawfulOver pool.old pool.new self.old self.new (receive_entry (model self.old pool.old) r output.new result)
-        }
-        ensures output { MatchResult result (λ a. OutputAfter output.old output.new a.delivery) (λ _. output.new ≡ output.old) }
+        ensures does { DoesReceive (model self.old pool.old)
+            (heard D.Directory ue.entry controls.now directory.old pool.old output.old message.now)
+            output.new result (model self.new pool.new) }
+        ensures lawful { LawfulOver pool.old pool.new self.old self.new
+            (receive_entry (model self.old pool.old)
+            (heard D.Directory ue.entry controls.now directory.old pool.old output.old message.now)
+            output.new result) }
+        ensures output { IfOk result (λ a. OutputAfter output.old output.new a.delivery) }
+        ensures untouched { OnErr result (output.new ≡ output.old) }
         ensures ticket { IfOk result (λ a. IsOpen (model self.new pool.new) a.delivery) }
-        ensures directory { let r = handed_by D.Directory ue.entry controls.now directory.old (length pool.old) (length output.old) message.now in MatchResult result (λ a. Consulted D.Directory (asks (model self.old pool.old) r (read message.now)) a.verdict directory.old directory.new) (λ _. directory.new ≡ directory.old) }
+        ensures directory { DirectoryAfter D.Directory (model self.old pool.old)
+            (heard D.Directory ue.entry controls.now directory.old pool.old output.old message.now)
+            result directory.old directory.new }
     {
         self.accept(ue, controls, directory, pool, output, message)
     }
 
-    // The payload of a ticket: the octets that its slot begins with.
+    /// The payload of a ticket: the octets that its slot of the pool begins with. It is refused
+    /// where the pool has another length, or the ticket is not open here.
     pub fn payload<'p>(&self, pool: &'p [u8], ticket: &Ticket) -> Result<&'p [u8], Refusal>
-        ensures does { HandsOut (model self.now pool.now) (length pool.now) (token ticket.now) (shown octets (λ e. e) result) (model self.now pool.now) }
-        ensures lawful { LawfulWith pool.now self.now self.now (entry.payload (length pool.now) (token ticket.now) (shown octets (λ e. e) result)) }
+        ensures does { DoesPayload self.now pool.now ticket.now result }
+        ensures lawful { LawfulWith pool.now self.now self.now (payload_entry pool.now ticket.now result) }
     {
         self.hand_out(pool, ticket)
     }
 
-    // An SMF took the payload: its flight is over.
+    /// An SMF took the payload: its flight is over. The ticket is handed back where it is not open here.
     #[tactic(auto, using(runs::proofs::Whole::lawful))]
     pub fn taken(&mut self, ticket: Ticket) -> Result<(), HandedBack<Ticket>>
-        ensures does { (p : List ℕ) → Takes (model self.old p) (token ticket) (handed (λ x. x) result) (model self.new p) }
-        ensures lawful { Lawful self.old self.new (entry.taken (token ticket) (handed (λ x. x) result)) }
+        ensures does { DoesTaken self.old ticket result self.new }
+        ensures lawful { Lawful self.old self.new (taken_entry ticket result) }
         ensures handed_back { IfErr result (λ e. e.value ≡ ticket) }
     {
         self.take(ticket)
     }
 
-    // The SMF did not take the payload: it goes back, and the context that was put for it is gone.
+    /// The SMF did not take the payload: its return (DL NAS TRANSPORT with 5GMM cause 90) is
+    /// written to the front of `output`, and the context that was put for it is gone. What is
+    /// answered is the length of the return. The ticket is handed back where the pool has another
+    /// length, the ticket is not open here, or the output is shorter than the payload and 13
+    /// octets.
     pub fn failed(
         &mut self,
         pool: &[u8],
         output: &mut [u8],
         ticket: Ticket,
     ) -> Result<usize, HandedBack<Ticket>>
-        ensures does { Fails (model self.old pool.now) (length pool.now) (length output.old) (token ticket) (handed (λ n. take n output.new) result) (model self.new pool.now) }
-        ensures lawful { LawfulWith pool.now self.old self.new (entry.failed (length pool.now) (length output.old) (token ticket) (handed (λ n. take n output.new) result)) }
-        ensures rest { MatchResult result (λ n. FrontWritten n output.old output.new) (λ e. output.new ≡ output.old) }
+        ensures does { DoesFailed self.old pool.now output.old ticket output.new result self.new }
+        ensures lawful { LawfulWith pool.now self.old self.new
+            (failed_entry pool.now output.old ticket output.new result) }
+        ensures rest { IfOk result (λ n. FrontWritten n output.old output.new) }
+        ensures untouched { OnErr result (output.new ≡ output.old) }
         ensures handed_back { IfErr result (λ e. e.value ≡ ticket) }
     {
         self.fail(pool, output, ticket)
     }
 
-    // Exchanges a ticket for its number.
+    /// Exchanges a ticket for its number. The ticket is handed back where it is not open here.
     #[tactic(auto, using(runs::proofs::Whole::lawful))]
     pub fn park(&mut self, ticket: Ticket) -> Result<u32, HandedBack<Ticket>>
-        ensures does { (p : List ℕ) → Parks (model self.old p) (token ticket) (handed (λ x. x) result) (model self.new p) }
-        ensures lawful { Lawful self.old self.new (entry.park (token ticket) (handed (λ x. x) result)) }
+        ensures does { DoesPark self.old ticket result self.new }
+        ensures lawful { Lawful self.old self.new (park_entry ticket result) }
         ensures handed_back { IfErr result (λ e. e.value ≡ ticket) }
     {
         self.set_aside(ticket)
     }
 
-    // Exchanges the number of a parked ticket for the ticket.
+    /// Exchanges the number of a parked ticket for the ticket. Refused where no ticket of that
+    /// number is parked.
     #[tactic(auto, using(runs::proofs::Whole::lawful))]
     pub fn pick(&mut self, number: u32) -> Result<Ticket, Refusal>
-        ensures does { (p : List ℕ) → Picks (model self.old p) number (shown token (λ e. e) result) (model self.new p) }
-        ensures lawful { Lawful self.old self.new (entry.pick number (shown token (λ e. e) result)) }
+        ensures does { DoesPick self.old number result self.new }
+        ensures lawful { Lawful self.old self.new (pick_entry number result) }
     {
         self.pick_up(number)
     }
 
-    // The SMF released the session: its context is gone.
+    /// The SMF released the session: its context is gone. Refused where it has none.
     #[tactic(auto, using(runs::proofs::Whole::lawful))]
     pub fn released(&mut self, session: PduSession) -> Result<(), Refusal>
-        ensures does { (p : List ℕ) → Releases (model self.old p) session.ue session.id (shown (λ x. x) (λ e. e) result) (model self.new p) }
-        ensures lawful { Lawful self.old self.new (entry.released session.ue session.id (shown (λ x. x) (λ e. e) result)) }
+        ensures does { DoesReleased self.old session result self.new }
+        ensures lawful { Lawful self.old self.new (released_entry session result) }
     {
         self.release(session)
     }

@@ -1,11 +1,11 @@
 -- What holds of a receive, by what it answered.
-use Rattle.std.proofs.Common.{◌≡◌, ℕ, ◌+◌, ◌≤◌, Bool, true, false, not, eqb, nat_le, ltb, ◌↔◌, List, length, Some, None, Ok, Err, Option, Result, MatchBool, refl, ap, sym, subst, ◌∙◌}
+use Rattle.std.proofs.Common.{◌≡◌, ℕ, ◌+◌, ◌≤◌, Bool, true, false, not, eqb, nat_le, ltb, ◌↔◌, List, [], length, is_some, Some, None, Ok, Err, Option, Result, MatchBool, refl, ap, sym, subst, ◌∙◌}
 use Rattle.std.specs.List.{list_any}
 use Rattle.std.proofs.lemmas.Bool.{false≢true, not-true, eqb-true}
 use Rattle.directories.specs.Choices.{Serving}
 use Rattle.records.specs.Records.{record_fits}
 use Rattle.accounts.specs.Receives as given
-use Rattle.accounts.specs.Receives.{Core, State, Opening, Received, Answer, admitted, received, case_on, verdict_on, answer_to, pool_length, most_flights, last_number}
+use Rattle.accounts.specs.Receives.{Core, State, Opening, Received, Answer, admitted, received, case_on, verdict_on, answer_to, pool_length, most_flights, last_number, return_overhead}
 use Rattle.accounts.specs.Accounts.{contexts_in}
 use Rattle.flights.specs.Slots.{is_for}
 use Rattle.nas.specs.Uplinks.{Message, then, read}
@@ -13,16 +13,18 @@ use Rattle.nas.proofs.Accepted.{then_ok, if_ok}
 use Rattle.nas.proofs.Bounds.{payload_few}
 use Rattle.stores.specs.declared.context.Context.{Context}
 use Rattle.stores.specs.Contexts.{lookup}
+use Rattle.verdicts.specs.declared.decision.Decision.{Decision}
+use Rattle.verdicts.specs.declared.decision.Decision.TheVariants.{Forward, Establish, Return}
 use Rattle.verdicts.specs.declared.outcome.Outcome.{Outcome}
 use Rattle.verdicts.specs.declared.outcome.Outcome.TheVariants.{Settled, Choose}
 use Rattle.verdicts.specs.Rulings.{asks_directory}
 use Rattle.verdicts.specs.Rules.{ruling}
-use Rattle.verdicts.specs.Verdicts.{cause_of, decision, verdict}
+use Rattle.verdicts.specs.Verdicts.{smf_of, cause_of, decision, verdict}
 use Rattle.verdicts.proofs.Ruled.{told, not_91, ruled}
 use Rattle.runs.specs.Models.{Model, Token, state}
 use Rattle.runs.specs.Entries.{Entry, receive, account_of}
 use Rattle.runs.specs.Calls.{Kept, RightChoice, Accepted, ReceiveDoes, Receives}
-use Rattle.runs.specs.Laws.{Answered, RightlyChosen, Chose}
+use Rattle.runs.specs.Laws.{Answered, RightlyChosen, Chose, SendsBack, Faithful}
 use Rattle.runs.proofs.Judging.{verdict_alike, asks_alike}
 
 -- ---- the checks
@@ -36,7 +38,7 @@ record Passed (core : Core) (s : State) (r : Received) (x : Message) : Type 0 wh
 
 admitted_ok : (s : State) (r : Received) (m x : Message) → admitted s r m ≡ Ok x → (m ≡ x) × (s.has_flight r.ue.number m.session ≡ false)
 admitted_ok s r m x h =
-    let output = if_ok (nat_le (length m.payload + 13) r.output) _ _ x h in
+    let output = if_ok (nat_le (length m.payload + return_overhead) r.output) _ _ x h in
     let pair = if_ok (not (s.has_flight r.ue.number m.session)) _ _ x output.1 in
     let flights = if_ok (ltb s.flights most_flights) _ _ x pair.1 in
     let room = if_ok (s.room r.ue.number m.session) _ _ x flights.1 in
@@ -92,6 +94,25 @@ undone m r chosen ticket e n h = go (received m.core (state m) r) h.answer h.doe
     go : (x : Result Message ℕ) → Err e ≡ then x (λ y. Ok (answer_to m.core m.next m.contexts r chosen y)) → ReceiveDoes m r chosen ticket x n → (chosen ≡ None) × (ticket ≡ None) × Kept m n
     go (Err i) q d = d
     go (Ok x) q d = absurd (cc)
+
+-- ---- the octets that go back at once
+
+-- by the decision alone
+none_back : (x : Message) (d : Decision) → is_some (smf_of d) ≡ true → given.returned_with x d ≡ []
+none_back x (Forward smf) e = refl
+none_back x (Establish smf emergency) e = refl
+none_back x (Return cause) e = absurd (false≢true e)
+
+sends_back : (x : Message) (a : Answer) → a.octets ≡ given.returned_with x a.verdict.decision → SendsBack x a
+sends_back x a h =
+    record {
+      forwarded = λ e. h ∙ none_back x a.verdict.decision e;
+      sent_back = λ cause e. h ∙ ap (given.returned_with x) e;
+    }
+
+pub faithful : (o : Opening) (es : List Entry) (m : Model) (r : Received) (chosen : Option ℕ) (ticket : Option Token) (a : Answer) (n : Model) → Done m r chosen ticket a n → Faithful o (receive r chosen ticket (Ok a)) es
+faithful o es m r chosen ticket a n d =
+    (d.message, d.reads, sends_back d.message a (subst (λ (b : Answer). b.octets ≡ given.returned_with d.message b.verdict.decision) (sym d.is) refl))
 
 -- ---- the directory's choice, by what the rules say
 

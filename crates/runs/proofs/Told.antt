@@ -19,6 +19,7 @@ use Rattle.runs.specs.Positions.{Flying, Established, ends_taken, ends_failed, e
 use Rattle.runs.specs.Calls.{flight, undelivered}
 use Rattle.runs.specs.Runs.{Step}
 use Rattle.runs.specs.Laws.{Answered, Fate, Outcomes, Faithful}
+use Rattle.runs.proofs.Receiving as receiving
 use Rattle.runs.proofs.Tickets.{passed, opened_flight, held_is}
 use Rattle.runs.proofs.Invariant.{Invariant}
 use Rattle.runs.proofs.Judging.{replaced, of_pair}
@@ -234,7 +235,9 @@ same_octets : (xs ys : List ℕ) → ◌≡◌ {A = Result (List ℕ) ℕ} (Ok x
 same_octets xs ys e = cc
 
 pub faithful : (o : Opening) (e : Entry) (es : List Entry) (m n : Model) → Invariant o (account_of o es) m → Told es (account_of o es) → Step m e n → Faithful o e es
-faithful o (receive r chosen ticket a) es m n i t s = tt
+faithful o (receive r chosen ticket (Ok a)) es m n i t s =
+    receiving.faithful o es m r chosen ticket a n (receiving.done m r chosen ticket a n s.1)
+faithful o (receive r chosen ticket (Err x)) es m n i t s = tt
 faithful o (payload pool u (Ok x)) es m n i t s =
     let g = opened_flight (flight m u) (λ f. Ok (slot_octets m.pool u.slot f.length)) x (passed (pool == pool_length) PoolLength _ x s.answer) in
     let w = carried o es m i t u g.0 g.1 in

@@ -72,6 +72,7 @@ law o es m r =
       agrees = record {
         next = i.next;
         contexts = i.contexts;
+        once = i.once;
         flights = i.flights;
         carried = invariant.carried_by o (account_of o es) m i;
         apart = i.apart;

@@ -5,7 +5,7 @@ use Rattle.std.specs.Option.{option_or}
 use Rattle.codes.specs.declared.cause.Cause.TheVariants.{NotForwarded}
 use Rattle.codes.specs.declared.refusal.Refusal.TheVariants.{PoolLength, OutputLength, UnknownTicket, NoContext}
 use Rattle.directories.specs.Choices.{Serving}
-use Rattle.accounts.specs.Receives.{Core, Received, Answer, received, answered, case_on, verdict_on, passing, pool_length}
+use Rattle.accounts.specs.Receives.{Core, Received, Answer, received, answered, case_on, verdict_on, passing, pool_length, return_overhead}
 use Rattle.flights.specs.declared.flight.Flight.{Flight}
 use Rattle.flights.specs.declared.flight.Mark.TheVariants.{InHand, Parked}
 use Rattle.flights.specs.Slots.{at, is_parked, in_hand}
@@ -134,7 +134,7 @@ pub record Undone (m : Model) (slot : ℕ) (f : Flight) (n : Model) : Type 0 whe
   pub pool : n.pool ≡ m.pool
 
 pub record Fails (m : Model) (pool output : ℕ) (t : Token) (a : Result (List ℕ) ℕ) (n : Model) : Type 0 where
-  pub answer : a ≡ passing (pool == pool_length) PoolLength (of_flight (flight m t) (λ f. passing (nat_le (f.length + 13) output) OutputLength (Ok (undelivered m t f))))
+  pub answer : a ≡ passing (pool == pool_length) PoolLength (of_flight (flight m t) (λ f. passing (nat_le (f.length + return_overhead) output) OutputLength (Ok (undelivered m t f))))
   pub does : Does a (λ x. (f : Flight) → flight m t ≡ Some f → Undone m t.slot f x) m n
 
 pub record Parks (m : Model) (t : Token) (a : Result ℕ ℕ) (n : Model) : Type 0 where

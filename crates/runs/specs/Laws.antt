@@ -1,6 +1,7 @@
 -- What holds after every run.
-use Rattle.std.specs.Prelude.{◌≡◌, ℕ, Bool, true, false, ◌↔◌, List, ◌∷◌, ◌++◌, is_some, Some, None, Ok, Err, Option, ◌==◌}
+use Rattle.std.specs.Prelude.{◌≡◌, ℕ, Bool, true, false, ◌↔◌, List, [], ◌∷◌, ◌++◌, is_some, Some, None, Ok, Err, Option, ◌==◌}
 use Rattle.std.specs.List.{find, count_by, AllByRecursion}
+use Rattle.codes.specs.declared.cause.Cause.{Cause}
 use Rattle.codes.specs.declared.cause.Cause.TheVariants.{NotForwarded, DnnNotSupported}
 use Rattle.codes.specs.Causes.{cause_number}
 use Rattle.accounts.specs.Receives.{Opening, Received, Answer, answer_to, case_on}
@@ -10,7 +11,8 @@ use Rattle.flights.specs.Slots.{at}
 use Rattle.nas.specs.Returns.{returned}
 use Rattle.nas.specs.Uplinks.{Message, read}
 use Rattle.stores.specs.declared.context.Context.{Context}
-use Rattle.stores.specs.Contexts.{lookup}
+use Rattle.stores.specs.Contexts.{lookup, Once}
+use Rattle.verdicts.specs.declared.decision.Decision.TheVariants.{Return}
 use Rattle.verdicts.specs.Rulings.{asks_directory}
 use Rattle.verdicts.specs.Rules.{ruling}
 use Rattle.verdicts.specs.Verdicts.{cause_of, smf_of}
@@ -53,6 +55,8 @@ pub record Agrees (o : Opening) (es : List Entry) (m : Model) : Type 0 where
   pub next : m.next ≡ (account_of o es).next
   -- the store's set is the account's contexts
   pub contexts : (u k : ℕ) → lookup m.contexts u k ≡ lookup (contexts_in (account_of o es)) u k
+  -- in which each session of each UE has at most one
+  pub once : Once (contexts_in (account_of o es))
   -- each flight is a payload in flight, with its octets in its slot; and each payload in flight is a flight;
   pub flights : (k : ℕ) (f : Flight) → at m.flights k ≡ Some f → (p : Payload) × (payload_of (account_of o es) f.number ≡ Some p) × Carries m k f p
   pub carried : AllByRecursion (λ p. in_flight p ≡ true → (k : ℕ) × (f : Flight) × (at m.flights k ≡ Some f) × Carries m k f p) (account_of o es).payloads
@@ -82,10 +86,18 @@ abbrev pub Outcomes : List Entry → Model → Type 0
 Outcomes es m =
     (later earlier : List Entry) (r : Received) (chosen : Option ℕ) (ticket : Option Token) (a : Answer) → es ≡ later ++ receive r chosen ticket (Ok a) ∷ earlier → Outcome m.flights later a
 
+-- What an accepted receive of the message x sends to the UE, by the verdict of its answer: nothing where the payload is forwarded, and where it goes back
+-- its return, with the verdict's cause and the back-off octet that the cause has.
+pub record SendsBack (x : Message) (a : Answer) : Type 0 where
+  pub forwarded : is_some (smf_of a.verdict.decision) ≡ true → a.octets ≡ []
+  pub sent_back : (cause : Cause) → a.verdict.decision ≡ Return cause → a.octets ≡ returned x.payload x.session cause
+
 -- A payload is handed out, taken or failed only while it is in flight. The octets that are handed out are those that were received, and those that
--- go back are their return, which the account has too.
+-- go back are their return: at once, where the verdict sends the payload back, or at its failure, where the account has it too.
 abbrev pub Faithful : Opening → Entry → List Entry → Type 0
-Faithful o (receive r chosen ticket a) earlier = Unit {0}
+Faithful o (receive r chosen ticket (Ok a)) earlier =
+    (x : Message) × (read r.octets ≡ Ok x) × SendsBack x a
+Faithful o (receive r chosen ticket (Err e)) earlier = Unit {0}
 Faithful o (payload pool t (Ok octets)) earlier =
     (x : Message) × Flying earlier t.number x × (octets ≡ x.payload)
 Faithful o (payload pool t (Err e)) earlier = Unit {0}

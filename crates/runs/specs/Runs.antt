@@ -1,6 +1,6 @@
 -- Runs: lists of calls on a router that was opened over an empty store.
 use Rattle.std.specs.Prelude.{◌≡◌, ℕ, List, [], ◌∷◌, Some, None, length, replicate, cond, ◌==◌}
-use Rattle.accounts.specs.Receives.{Opening, pool_length}
+use Rattle.accounts.specs.Receives.{Opening, pool_length, most_flights}
 use Rattle.flights.specs.declared.flight.Flight.{Flight}
 use Rattle.flights.specs.Slots.{at}
 use Rattle.runs.specs.Models.{Model, slot_octets}
@@ -11,7 +11,7 @@ use Rattle.runs.specs.Calls.{Receives, HandsOut, Takes, Fails, Parks, Picks, Rel
 pub record Opened (o : Opening) (m : Model) : Type 0 where
   pub core : m.core ≡ o.core
   pub next : m.next ≡ o.first
-  pub flights : m.flights ≡ replicate 16 None
+  pub flights : m.flights ≡ replicate most_flights None
   pub contexts : m.contexts ≡ []
 
 -- a buffer that is handed in and has a pool's length is the pool

@@ -1,11 +1,12 @@
 // What the calls do that follow a receive.
-ghost use Rattle.std.specs.Prelude.{◌≡◌, ℕ, ◌≤◌, ◌<◌, List, IfSome, IfErr, MatchResult, take, length, Some, Ok};
+ghost use Rattle.std.specs.Prelude.{◌≡◌, ℕ, ◌≤◌, ◌<◌, List, IfSome, IfOk, IfErr, OnErr};
+ghost use Rattle.accounts.specs.Receives.{most_flights};
 ghost use Rattle.flights.specs.Slots.{in_hand};
-ghost use Rattle.flights.specs.declared.flight.Mark.TheVariants.{InHand};
-ghost use Rattle.nas.specs.Views.{octets};
 ghost use Rattle.router.specs.Buffers.{FrontWritten};
-ghost use Rattle.router.specs.Views.{model, token, handed, shown};
-ghost use Rattle.runs.specs.Calls.{HandsOut, Takes, Fails, Parks, Picks, Releases, Undone};
+ghost use Rattle.router.specs.Calls.{DoesPayload, DoesTaken, DoesFailed, DoesPark, DoesPick, DoesReleased};
+ghost use Rattle.router.specs.Views.{model};
+ghost use Rattle.runs.specs.Calls.{Undone};
+ghost use Rattle.runs.specs.Models.{slot_length};
 
 use super::Router;
 use crate::pool::{POOL_LENGTH, slot_part};
@@ -30,15 +31,15 @@ impl<S: Store> Router<S> {
     // The flight of a ticket, if the ticket is open here.
     fn flight(&self, ticket: &Ticket) -> Option<Flight>
         ensures value { result ≡ in_hand self.now.flights.slots ticket.now.number ticket.now.slot }
-        ensures slot { IfSome result (λ f. ticket.now.slot < 16) }
+        ensures slot { IfSome result (λ f. ticket.now.slot < most_flights) }
         ensures session { IfSome result (λ f. (0 < f.session) × (f.session ≤ 15)) }
-        ensures length { IfSome result (λ f. (0 < f.length) × (f.length ≤ 2048)) }
+        ensures length { IfSome result (λ f. (0 < f.length) × (f.length ≤ slot_length)) }
     {
         self.flights.in_hand(ticket.number, ticket.slot)
     }
 
     pub(super) fn hand_out<'p>(&self, pool: &'p [u8], ticket: &Ticket) -> Result<&'p [u8], Refusal>
-        ensures { HandsOut (model self.now pool.now) (length pool.now) (token ticket.now) (shown octets (λ e. e) result) (model self.now pool.now) }
+        ensures { DoesPayload self.now pool.now ticket.now result }
     {
         if pool.len() != POOL_LENGTH {
             return Err(Refusal::PoolLength);
@@ -66,8 +67,9 @@ impl<S: Store> Router<S> {
         output: &mut [u8],
         ticket: Ticket,
     ) -> Result<usize, HandedBack<Ticket>>
-        ensures does { Fails (model self.old pool.now) (length pool.now) (length output.old) (token ticket) (handed (λ n. take n output.new) result) (model self.new pool.now) }
-        ensures rest { MatchResult result (λ n. FrontWritten n output.old output.new) (λ e. output.new ≡ output.old) }
+        ensures does { DoesFailed self.old pool.now output.old ticket output.new result self.new }
+        ensures rest { IfOk result (λ n. FrontWritten n output.old output.new) }
+        ensures untouched { OnErr result (output.new ≡ output.old) }
         ensures handed_back { IfErr result (λ e. e.value ≡ ticket) }
     {
         if pool.len() != POOL_LENGTH {
@@ -88,7 +90,7 @@ impl<S: Store> Router<S> {
     }
 
     pub(super) fn take(&mut self, ticket: Ticket) -> Result<(), HandedBack<Ticket>>
-        ensures does { (p : List ℕ) → Takes (model self.old p) (token ticket) (handed (λ x. x) result) (model self.new p) }
+        ensures does { DoesTaken self.old ticket result self.new }
         ensures handed_back { IfErr result (λ e. e.value ≡ ticket) }
     {
         if self.flight(&ticket).is_none() {
@@ -100,7 +102,7 @@ impl<S: Store> Router<S> {
     }
 
     pub(super) fn set_aside(&mut self, ticket: Ticket) -> Result<u32, HandedBack<Ticket>>
-        ensures does { (p : List ℕ) → Parks (model self.old p) (token ticket) (handed (λ x. x) result) (model self.new p) }
+        ensures does { DoesPark self.old ticket result self.new }
         ensures handed_back { IfErr result (λ e. e.value ≡ ticket) }
     {
         if self.flight(&ticket).is_none() {
@@ -112,7 +114,7 @@ impl<S: Store> Router<S> {
     }
 
     pub(super) fn pick_up(&mut self, number: u32) -> Result<Ticket, Refusal>
-        ensures does { (p : List ℕ) → Picks (model self.old p) number (shown token (λ e. e) result) (model self.new p) }
+        ensures does { DoesPick self.old number result self.new }
     {
         let slot = self
             .flights
@@ -123,7 +125,7 @@ impl<S: Store> Router<S> {
     }
 
     pub(super) fn release(&mut self, session: PduSession) -> Result<(), Refusal>
-        ensures does { (p : List ℕ) → Releases (model self.old p) session.ue session.id (shown (λ x. x) (λ e. e) result) (model self.new p) }
+        ensures does { DoesReleased self.old session result self.new }
     {
         if !self.store.remove(session) {
             return Err(Refusal::NoContext);

@@ -1,9 +1,8 @@
 // Opening a router.
-ghost use Rattle.std.specs.Prelude.{◌≡◌, ℕ, List, IfOk, MatchResult, true};
+ghost use Rattle.std.specs.Prelude.{◌≡◌, IfOk, MatchResult, true};
 ghost use Rattle.names.specs.Names.{GoodNames};
-ghost use Rattle.router.specs.Openings.{opening, opening_fits, NotOpened};
-ghost use Rattle.router.specs.Views.{model};
-ghost use Rattle.runs.specs.Runs.{Opened};
+ghost use Rattle.router.specs.Openings.{opening, opening_fits, IsOpened, OpensIf, CopiesIf};
+ghost use Rattle.router.specs.Views.{store_of};
 
 use super::Router;
 use crate::unopened::Unopened;
@@ -24,7 +23,8 @@ fn copied<S: Store>(
 ) -> Result<Book, SetupError>
     ensures names { IfOk result (λ b. b ≡ book.now) }
     ensures good { IfOk result (λ b. GoodNames b) }
-    ensures fits { MatchResult result (λ b. opening_fits (opening book.now configuration first) (S.Store.contexts store.now) ≡ true) (λ e. NotOpened (opening_fits (opening book.now configuration first) (S.Store.contexts store.now)) e) }
+    ensures fits { CopiesIf
+        (opening_fits (opening book.now configuration first) (S.Store.contexts store.now)) result }
 {
     configuration.check(book)?;
     if first == 0 || !store.is_empty() {
@@ -34,7 +34,7 @@ fn copied<S: Store>(
 }
 
 impl<S: Store> Router<S> {
-    // A router over an empty store, which it alone writes from now on. The book is copied.
+    // A router over an empty store, with a copy of the book.
     pub(super) fn begin(
         heap: Global,
         book: &Book,
@@ -42,9 +42,10 @@ impl<S: Store> Router<S> {
         first: u32,
         store: S,
     ) -> Result<Router<S>, Unopened<S>>
-        ensures opened { IfOk result (λ r. (p : List ℕ) → Opened (opening book.now configuration first) (model r p)) }
-        ensures fits { MatchResult result (λ r. opening_fits (opening book.now configuration first) (S.Store.contexts store) ≡ true) (λ u. NotOpened (opening_fits (opening book.now configuration first) (S.Store.contexts store)) u.error) }
-        ensures store { MatchResult result (λ r. r.store ≡ store) (λ u. u.store ≡ store) }
+        ensures opened { IfOk result (IsOpened (opening book.now configuration first)) }
+        ensures fits { OpensIf
+            (opening_fits (opening book.now configuration first) (S.Store.contexts store)) result }
+        ensures store { MatchResult result (λ r. store_of r ≡ store) (λ u. u.store ≡ store) }
     {
         match copied(heap, book, configuration, first, &store) {
             Ok(book) => Ok(Router {

@@ -1,22 +1,22 @@
 // What a receive does.
-ghost use Rattle.std.specs.Prelude.{◌≡◌, ℕ, [], ◌≤◌, ◌<◌, List, MatchResult, is_some, ◌+◌, length, IfOk, Some, None, Ok, true, false};
-ghost use Rattle.accounts.specs.Receives.{case_on, answer_to, reserved, returned_with, verdict_on};
+ghost use Rattle.std.specs.Prelude.{◌≡◌, ℕ, [], ◌≤◌, ◌<◌, List, OnErr, is_some, ◌+◌, length, IfOk, None, Ok, true, false};
+ghost use Rattle.accounts.specs.Receives.{pool_length, most_flights, last_number, case_on, reserved, returned_with};
 ghost use Rattle.flights.specs.Slots.{at, in_hand};
 ghost use Rattle.flights.specs.declared.flight.Mark.TheVariants.{InHand};
 ghost use Rattle.nas.specs.Uplinks.{in_range, read};
-ghost use Rattle.nas.specs.Views.{decoded, octets};
+ghost use Rattle.nas.specs.Uplinks as uplinks;
+ghost use Rattle.nas.specs.Views.{decoded, seen};
 ghost use Rattle.records.specs.Records.{plain, record_fits};
 ghost use Rattle.router.specs.Fits.{flight_fits};
-ghost use Rattle.router.specs.Receiving.{Admitted, asks, choice_for, Consulted, answer_in, chosen_in, ticket_of, admitted_message, received_of, handed_by, judged_by, IsOpen, OutputAfter, ticket_in, told, Fitting, written_to};
-ghost use Rattle.router.specs.Views.{core, model, shown};
-ghost use Rattle.runs.specs.Models.{state};
-ghost use Rattle.nas.specs.Uplinks as uplinks;
-ghost use Rattle.runs.specs.Calls.{Accepted, Delivered, flight_of, PlacedIn, RightChoice, Receives};
-ghost use Rattle.runs.specs.Entries as entry;
-ghost use Rattle.stores.specs.Contexts.{fits};
-ghost use Rattle.stores.specs.declared.context.Context as code;
+ghost use Rattle.router.specs.Receiving.{Admitted, admitted_message, received_of, Fitting};
+ghost use Rattle.router.specs.Receiving.{asks, judged_by, verdict_for, ChoseRightly, Consulted, PutFits};
+ghost use Rattle.router.specs.Receiving.{heard, ticket_in, told, written_to, AcceptedWith, answer_for};
+ghost use Rattle.router.specs.Receiving.{DoesReceive, IsOpen, OutputAfter, DirectoryAfter};
+ghost use Rattle.router.specs.Views.{core, model, contexts_of, OnlyFlights};
+ghost use Rattle.runs.specs.Calls.{Delivered, flight_of, PlacedIn};
+ghost use Rattle.runs.specs.Models.{state, slot_length};
 ghost use Rattle.verdicts.specs.Laws.{answer_of, Judged};
-ghost use Rattle.verdicts.specs.Verdicts.{context_of, smf_of};
+ghost use Rattle.verdicts.specs.Verdicts.{smf_of};
 
 use super::Router;
 use crate::admission::Admission;
@@ -37,13 +37,15 @@ use stores::{PduSession, Store};
 use verdicts::{Decision, Verdict, judge};
 
 impl<S: Store> Router<S> {
-    // The next number and a free slot for a session that has no payload in flight. Nothing is changed yet.
+    // The next number and a free slot for a session that has no payload in flight. Nothing is
+    // changed yet.
     fn reserve(&self, session: PduSession) -> Result<(u32, usize), Refusal>
-        ensures value { (x : uplinks.Message) → shown (λ _. x) (λ e. e) result ≡ reserved (state (model self.now [])) session.ue session.id x }
+        ensures value { (x : uplinks.Message) →
+            seen (λ _. x) result ≡ reserved (state (model self.now [])) session.ue session.id x }
         ensures number { IfOk result (λ r. r.0 ≡ self.now.next) }
-        ensures slot { IfOk result (λ r. (r.1 < 16) × (at self.now.flights.slots r.1 ≡ None)) }
+        ensures slot { IfOk result (λ r. (r.1 < most_flights) × (at self.now.flights.slots r.1 ≡ None)) }
         ensures room { IfOk result (λ r. S.Store.room self.now.store session.ue session.id ≡ true) }
-        ensures next { IfOk result (λ r. self.now.next ≤ 4294967295) }
+        ensures next { IfOk result (λ r. self.now.next ≤ last_number) }
     {
         if self.flights.has(session) {
             return Err(Refusal::PairInFlight);
@@ -64,9 +66,10 @@ impl<S: Store> Router<S> {
         output: &[u8],
         message: &'m [u8],
     ) -> Result<Admission<'m>, Refusal>
-        ensures value { admitted_message result ≡ received_of (model self.now pool.now) (plain ue.entry) (length pool.now) (length output.now) message.now }
+        ensures value { admitted_message result
+            ≡ received_of (model self.now pool.now) (plain ue.entry) output.now message.now }
         ensures reads { IfOk result (λ a. read message.now ≡ Ok (decoded a.uplink)) }
-        ensures admitted { IfOk result (λ a. Admitted (model self.now pool.now) (plain ue.entry) (length pool.now) (length output.now) a) }
+        ensures admitted { IfOk result (Admitted (model self.now pool.now) (plain ue.entry) output.now) }
     {
         ue.check(&self.book)?;
         if pool.len() != POOL_LENGTH {
@@ -116,10 +119,14 @@ impl<S: Store> Router<S> {
     ) -> Verdict
         requires ue_in { record_fits (length (core self.now).names) (plain ue) ≡ true }
         requires session { in_range uplink.now.session ≡ true }
-        ensures value { let r = judged_by D.Directory ue.entry controls.now directory.old in result ≡ verdict_on (core self.now) (S.Store.contexts self.now.store) r (choice_for (model self.now []) r result (Ok (decoded uplink.now))) (decoded uplink.now) }
-        ensures choice { let r = judged_by D.Directory ue.entry controls.now directory.old in RightChoice (core self.now) (S.Store.contexts self.now.store) r (choice_for (model self.now []) r result (Ok (decoded uplink.now))) (decoded uplink.now) }
-        ensures directory { Consulted D.Directory (asks (model self.now []) (judged_by D.Directory ue.entry controls.now directory.old) (Ok (decoded uplink.now))) result directory.old directory.new }
-        ensures bounded { (c : code.Context) → context_of result ue.entry.number uplink.now.session ≡ Some c → fits c ≡ true }
+        ensures value { let r = judged_by D.Directory ue.entry controls.now directory.old in
+            result ≡ verdict_for (model self.now []) r result (decoded uplink.now) }
+        ensures choice { let r = judged_by D.Directory ue.entry controls.now directory.old in
+            ChoseRightly (model self.now []) r result (decoded uplink.now) }
+        ensures directory { let r = judged_by D.Directory ue.entry controls.now directory.old in
+            let asked = asks (model self.now []) r (Ok (decoded uplink.now)) in
+            Consulted D.Directory asked result directory.old directory.new }
+        ensures bounded { PutFits result ue.entry.number uplink.now.session }
     {
         self.judge(uplink, ue, controls, directory)
     }
@@ -127,15 +134,17 @@ impl<S: Store> Router<S> {
     // The payload stands in the free slot, and its flight with it.
     #[tactic(auto, using(crate::proofs::Tickets::opened))]
     fn place(&mut self, pool: &mut [u8], slot: usize, payload: &[u8], flight: Flight) -> Ticket
-        requires whole { length pool.old ≡ 32768 }
-        requires slot { slot < 16 }
+        requires whole { length pool.old ≡ pool_length }
+        requires slot { slot < most_flights }
         requires free { at self.old.flights.slots slot ≡ None }
-        requires payload { length payload.now ≤ 2048 }
+        requires payload { length payload.now ≤ slot_length }
         requires fits { flight_fits flight ≡ true }
         requires in_hand { flight.mark ≡ InHand }
-        ensures placed { PlacedIn result.slot flight payload.now (model self.old pool.old) (model self.new pool.new) }
-        ensures given { (result.number ≡ flight.number) × (is_some (in_hand self.new.flights.slots flight.number result.slot) ≡ true) }
-        ensures same { (self.new.store ≡ self.old.store) × (core self.new ≡ core self.old) × (self.new.next ≡ self.old.next) }
+        ensures placed { PlacedIn result.slot flight payload.now
+            (model self.old pool.old) (model self.new pool.new) }
+        ensures number { result.number ≡ flight.number }
+        ensures in_hand { is_some (in_hand self.new.flights.slots flight.number result.slot) ≡ true }
+        ensures same { OnlyFlights self.old self.new }
     {
         fill_slot(pool, slot, payload);
         self.flights.open(slot, flight);
@@ -154,16 +163,20 @@ impl<S: Store> Router<S> {
         ue: UeNumber,
         verdict: Verdict,
     ) -> Delivery
-        requires whole { length pool.old ≡ 32768 }
-        requires slot { admission.now.slot < 16 }
+        requires whole { length pool.old ≡ pool_length }
+        requires slot { admission.now.slot < most_flights }
         requires fitting { Fitting admission.now.uplink }
         requires output { length admission.now.uplink.payload.now + 13 ≤ length output.old }
         requires free { at self.old.flights.slots admission.now.slot ≡ None }
-        ensures delivered { Delivered (flight_of admission.now.number ue (decoded admission.now.uplink) verdict) admission.now.uplink.payload.now (smf_of verdict.decision) (ticket_in result) (model self.old pool.old) (model self.new pool.new) }
-        ensures octets { written_to output.new result ≡ returned_with (decoded admission.now.uplink) verdict.decision }
+        ensures delivered { let x = decoded admission.now.uplink in
+            let flight = flight_of admission.now.number ue x verdict in
+            Delivered flight x.payload (smf_of verdict.decision) (ticket_in result)
+            (model self.old pool.old) (model self.new pool.new) }
+        ensures octets { written_to output.new result
+            ≡ returned_with (decoded admission.now.uplink) verdict.decision }
         ensures output { OutputAfter output.old output.new result }
         ensures ticket { IsOpen (model self.new pool.new) result }
-        ensures same { (self.new.store ≡ self.old.store) × (core self.new ≡ core self.old) × (self.new.next ≡ self.old.next) }
+        ensures same { OnlyFlights self.old self.new }
     {
         let uplink = admission.uplink;
         match verdict.decision {
@@ -201,12 +214,20 @@ impl<S: Store> Router<S> {
         pool: &mut [u8],
         output: &mut [u8],
     ) -> Answer
-        requires admitted { Admitted (model self.old pool.old) (plain ue) (length pool.old) (length output.old) admission.now }
-        ensures accepted { (octets : List ℕ) → let r = handed_by D.Directory ue.entry controls.now directory.old (length pool.old) (length output.old) octets in Accepted (model self.old pool.old) r (choice_for (model self.old pool.old) r result.verdict (Ok (decoded admission.now.uplink))) (ticket_in result.delivery) (decoded admission.now.uplink) (model self.new pool.new) }
-        ensures answer { (octets : List ℕ) → let r = handed_by D.Directory ue.entry controls.now directory.old (length pool.old) (length output.old) octets in told output.new result ≡ answer_to (core self.old) self.old.next (S.Store.contexts self.old.store) r (choice_for (model self.old pool.old) r result.verdict (Ok (decoded admission.now.uplink))) (decoded admission.now.uplink) }
+        requires admitted { Admitted (model self.old pool.old) (plain ue) output.old admission.now }
+        ensures accepted { (octets : List ℕ) →
+            let r = heard D.Directory ue.entry controls.now directory.old pool.old output.old octets in
+            AcceptedWith (model self.old pool.old) r (decoded admission.now.uplink) result
+            (model self.new pool.new) }
+        ensures answer { (octets : List ℕ) →
+            let r = heard D.Directory ue.entry controls.now directory.old pool.old output.old octets in
+            told output.new result
+            ≡ answer_for (model self.old pool.old) r result.verdict (decoded admission.now.uplink) }
         ensures output { OutputAfter output.old output.new result.delivery }
         ensures ticket { IsOpen (model self.new pool.new) result.delivery }
-        ensures directory { Consulted D.Directory (asks (model self.old pool.old) (judged_by D.Directory ue.entry controls.now directory.old) (Ok (decoded admission.now.uplink))) result.verdict directory.old directory.new }
+        ensures directory { let r = judged_by D.Directory ue.entry controls.now directory.old in
+            let asked = asks (model self.old pool.old) r (Ok (decoded admission.now.uplink)) in
+            Consulted D.Directory asked result.verdict directory.old directory.new }
     {
         let uplink = &admission.uplink;
         let verdict = self.decide(uplink, ue, controls, directory);
@@ -235,10 +256,15 @@ impl<S: Store> Router<S> {
         output: &mut [u8],
         message: &[u8],
     ) -> Result<Answer, Refusal>
-        ensures does { let r = handed_by D.Directory ue.entry controls.now directory.old (length pool.old) (length output.old) message.now in let a = answer_in output.new result in Receives (model self.old pool.old) r (chosen_in (model self.old pool.old) r a) (ticket_of result) a (model self.new pool.new) }
-        ensures output { MatchResult result (λ a. OutputAfter output.old output.new a.delivery) (λ _. output.new ≡ output.old) }
+        ensures does { DoesReceive (model self.old pool.old)
+            (heard D.Directory ue.entry controls.now directory.old pool.old output.old message.now)
+            output.new result (model self.new pool.new) }
+        ensures output { IfOk result (λ a. OutputAfter output.old output.new a.delivery) }
+        ensures untouched { OnErr result (output.new ≡ output.old) }
         ensures ticket { IfOk result (λ a. IsOpen (model self.new pool.new) a.delivery) }
-        ensures directory { MatchResult result (λ a. Consulted D.Directory (asks (model self.old pool.old) (judged_by D.Directory ue.entry controls.now directory.old) (read message.now)) a.verdict directory.old directory.new) (λ _. directory.new ≡ directory.old) }
+        ensures directory { DirectoryAfter D.Directory (model self.old pool.old)
+            (heard D.Directory ue.entry controls.now directory.old pool.old output.old message.now)
+            result directory.old directory.new }
     {
         let admission = self.admit(ue, pool, output, message)?;
         Ok(self.handle(&admission, ue, controls, directory, pool, output))
