@@ -3,7 +3,7 @@ use Rattle.std.specs.Prelude.{ℕ, ◌+◌, Bool, cond, not, List, [], length, O
 use Rattle.codes.specs.declared.refusal.Refusal.{Refusal}
 use Rattle.codes.specs.declared.refusal.Refusal.TheVariants.{RecordBounds, PoolLength, OutputLength, PairInFlight, FlightsFull, NoRoom, NumbersSpent}
 use Rattle.control.specs.declared.control_key.ControlKey.{ControlKey}
-use Rattle.nas.specs.Returns.{returned}
+use Rattle.nas.specs.Returns.{returned, return_overhead}
 use Rattle.codes.specs.Refusals.{refuse}
 use Rattle.nas.specs.Uplinks.{Message, then, read}
 use Rattle.records.specs.declared.configuration.Configuration.{Configuration}
@@ -55,10 +55,6 @@ most_flights = 16
 
 abbrev pub last_number : ℕ
 last_number = 4294967295
-
--- so many octets a return has at most beside its payload
-abbrev pub return_overhead : ℕ
-return_overhead = 13
 
 -- x, where the check is passed
 abbrev pub passing : {X : Type 0} → Bool → Refusal → Result X ℕ → Result X ℕ

@@ -3,7 +3,7 @@ use Rattle.std.specs.Prelude.{◌≡◌, ℕ, ◌+◌, ◌≤◌, List, length, 
 use Rattle.accounts.specs.Receives.{passing}
 use Rattle.codes.specs.declared.cause.Cause.{Cause}
 use Rattle.codes.specs.declared.refusal.Refusal.TheVariants.{OutputLength}
-use Rattle.nas.specs.Returns.{returned}
+use Rattle.nas.specs.Returns.{returned, return_overhead}
 
 -- the first n octets are written, and the others are as they were
 pub record FrontWritten (n : ℕ) (before after : List ℕ) : Type 0 where
@@ -14,4 +14,4 @@ pub record FrontWritten (n : ℕ) (before after : List ℕ) : Type 0 where
 -- the length of the return of a payload, or the number of the refusal where an output of this length is too short for it
 abbrev pub return_length : ℕ → List ℕ → ℕ → Cause → Result ℕ ℕ
 return_length output payload session cause =
-    passing (nat_le (length payload + 13) output) OutputLength (Ok (length (returned payload session cause)))
+    passing (nat_le (length payload + return_overhead) output) OutputLength (Ok (length (returned payload session cause)))

@@ -6,8 +6,8 @@ use Rattle.control.specs.declared.control_row.ControlRow.{ControlRow}
 use Rattle.control.specs.declared.control_table.ControlTable.{ControlTable}
 use Rattle.control.specs.Lines.{back_off_of}
 use Rattle.directories.specs.declared.directory.Directory.{Ghosts}
-use Rattle.directories.specs.Choices.{Chosen}
-use Rattle.nas.specs.Uplinks.{Message, in_range, read}
+use Rattle.nas.specs.Returns.{return_overhead}
+use Rattle.nas.specs.Uplinks.{Message, in_range, read, max_payload}
 use Rattle.nas.specs.declared.uplink.Uplink.{Uplink}
 use Rattle.nas.specs.Views.{decoded, seen}
 use Rattle.records.specs.declared.ue_record.UeRecord.{UeRecord}
@@ -19,16 +19,16 @@ use Rattle.router.specs.declared.answer.Answer as code
 use Rattle.router.specs.declared.answer.Delivery.{Delivery}
 use Rattle.router.specs.declared.answer.Delivery.TheVariants.{Forwarded, Returned}
 use Rattle.verdicts.specs.declared.verdict.Verdict.{Verdict}
-use Rattle.verdicts.specs.Laws.{answer_of, choice_of}
+use Rattle.verdicts.specs.Judgements.{ConsultedFor}
+use Rattle.verdicts.specs.Laws.{choice_of}
 use Rattle.verdicts.specs.Verdicts.{smf_of, context_of}
-use Rattle.verdicts.specs.Rules.{ruling}
-use Rattle.verdicts.specs.Rulings.{asks_directory}
+use Rattle.verdicts.specs.Rules.{ruling, has_choice}
 use Rattle.router.specs.Buffers.{FrontWritten}
 use Rattle.router.specs.Views.{token}
 use Rattle.runs.specs.Calls.{flight, Accepted, RightChoice, Receives, stood_after}
 use Rattle.runs.specs.Entries as entry
 use Rattle.runs.specs.Entries.{Entry}
-use Rattle.runs.specs.Models.{Model, Token, state, slot_length}
+use Rattle.runs.specs.Models.{Model, Token, state}
 use Rattle.stores.specs.declared.context.Context.{Context}
 use Rattle.stores.specs.Contexts.{fits, lookup}
 
@@ -88,7 +88,7 @@ OutputAfter before after (Returned n) = FrontWritten n before after
 
 -- it has to choose for the message that was read, if one was
 abbrev pub asks : Model → Received → Result Message ℕ → Bool
-asks m r (Ok x) = asks_directory (ruling (case_on m.core m.contexts r x)).outcome
+asks m r (Ok x) = has_choice (case_on m.core m.contexts r x)
 asks m r (Err e) = false
 
 -- the SMF that it chose, by the verdict on that message
@@ -101,18 +101,10 @@ abbrev pub chosen_in : Model → Received → Result Answer ℕ → Option ℕ
 chosen_in m r (Ok a) = choice_for m r a.verdict (read r.octets)
 chosen_in m r (Err e) = None
 
--- What becomes of a directory: where it has to choose, its choice is one that it may take, and it is what that choice leaves; else it is as it
--- was. Who serves and whether it is open never changes.
-pub record Consulted {D : Type 0} (g : Ghosts D) (asked : Bool) (v : Verdict) (before after : D) : Type 0 where
-  pub choice : asked ≡ true → Chosen (g.opened before) (g.serves before v.used.slice v.used.dnn) (g.takes before v.used.slice v.used.dnn) (answer_of (g.opened before) (smf_of v.decision))
-  pub turn : asked ≡ true → g.turned before v.used.slice v.used.dnn (answer_of (g.opened before) (smf_of v.decision)) after
-  pub unasked : asked ≡ false → after ≡ before
-  pub opening : g.opened after ≡ g.opened before
-  pub serving : (s n m : ℕ) → g.serves after s n m ≡ g.serves before s n m
-
--- the same for a receive that gave this result: a refused one leaves the directory as it was
+-- what becomes of it in a receive that gave this result: a refused one leaves it as it was
 abbrev pub DirectoryAfter : {D : Type 0} → Ghosts D → Model → Received → Result code.Answer Refusal → D → D → Type 0
-DirectoryAfter g m r (Ok a) before after = Consulted g (asks m r (read r.octets)) a.verdict before after
+DirectoryAfter g m r (Ok a) before after =
+    ConsultedFor g (asks m r (read r.octets)) a.verdict before after
 DirectoryAfter g m r (Err e) before after = after ≡ before
 
 -- ---- the verdict, with the choice that the directory made for it
@@ -173,7 +165,7 @@ receive_entry m r output result = entry.receive r (chosen_in m r (answer_in outp
 -- what holds of every message that is read
 pub record Fitting (u : Uplink) : Type 0 where
   pub some : 0 < length u.payload.now
-  pub few : length u.payload.now ≤ slot_length
+  pub few : length u.payload.now ≤ max_payload
   pub session : in_range u.session ≡ true
 
 -- the admission a of a message that passed them, of this UE, with this output
@@ -181,7 +173,7 @@ pub record Admitted (m : Model) (ue : Ue) (output : List ℕ) (a : Admission) : 
   pub ue_in : record_fits (length m.core.names) ue ≡ true
   pub pool_is : length m.pool ≡ pool_length
   pub fitting : Fitting a.uplink
-  pub output_has : length a.uplink.payload.now + 13 ≤ length output
+  pub output_has : length a.uplink.payload.now + return_overhead ≤ length output
   pub room : m.room ue.number a.uplink.session ≡ true
   pub number : a.number ≡ m.next
   pub next : m.next ≤ last_number

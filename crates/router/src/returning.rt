@@ -3,7 +3,7 @@ ghost use Rattle.std.specs.Prelude.{◌≡◌, ◌<◌, ◌≤◌, length, take,
 ghost use Rattle.codes.specs.Refusals.{numbered};
 ghost use Rattle.nas.specs.Returns.{returned};
 ghost use Rattle.router.specs.Buffers.{FrontWritten, return_length};
-ghost use Rattle.runs.specs.Models.{slot_length};
+ghost use Rattle.nas.specs.Uplinks.{max_payload};
 
 use codes::{Cause, Refusal, SessionId};
 use nas::write_return;
@@ -17,7 +17,7 @@ pub(crate) fn return_payload(
     cause: Cause,
 ) -> Result<usize, Refusal>
     requires some { 0 < length payload.now }
-    requires few { length payload.now ≤ slot_length }
+    requires few { length payload.now ≤ max_payload }
     requires first { 0 < session }
     requires last { session ≤ 15 }
     ensures value { numbered result ≡ return_length (length output.old) payload.now session cause }

@@ -7,6 +7,7 @@ use Rattle.records.specs.Records.{record_fits}
 use Rattle.accounts.specs.Receives.{Core, State, Received, Answer, received, admitted, passing, pool_length}
 use Rattle.flights.specs.declared.flight.Flight.{Flight}
 use Rattle.nas.specs.Uplinks.{Message, read, then}
+use Rattle.nas.specs.Returns.{return_overhead}
 use Rattle.runs.specs.Models.{Model, Token, state, slot_octets, with_pool}
 use Rattle.runs.specs.Entries.{receive, payload, failed}
 use Rattle.runs.specs.Calls.{Kept, ReceiveDoes, Receives, HandsOut, Fails, Undone, Does, of_flight, flight, undelivered}
@@ -84,9 +85,9 @@ refused_does P Q m n p false q (Ok x) e h d = absurd (false≢true (ap is_err h)
 refused_does P Q m n p false q (Err x) e h d = kept_with m n p d
 
 -- a payload that failed leaves the pool as it was
-pool_stays : (m n : Model) (b : Bool) (output : ℕ) (t : Token) (a : Result (List ℕ) ℕ) → a ≡ passing b PoolLength (of_flight (flight m t) (λ f. passing (nat_le (f.length + 13) output) OutputLength (Ok (undelivered m t f)))) → Does a (λ x. (f : Flight) → flight m t ≡ Some f → Undone m t.slot f x) m n → n.pool ≡ m.pool
+pool_stays : (m n : Model) (b : Bool) (output : ℕ) (t : Token) (a : Result (List ℕ) ℕ) → a ≡ passing b PoolLength (of_flight (flight m t) (λ f. passing (nat_le (f.length + return_overhead) output) OutputLength (Ok (undelivered m t f)))) → Does a (λ x. (f : Flight) → flight m t ≡ Some f → Undone m t.slot f x) m n → n.pool ≡ m.pool
 pool_stays m n b output t (Ok x) e d =
-    let o = opened_flight (flight m t) (λ f. passing (nat_le (f.length + 13) output) OutputLength (Ok (undelivered m t f))) x (passed b PoolLength _ x e) in
+    let o = opened_flight (flight m t) (λ f. passing (nat_le (f.length + return_overhead) output) OutputLength (Ok (undelivered m t f))) x (passed b PoolLength _ x e) in
     (d o.0 o.1).pool
 pool_stays m n b output t (Err x) e d = d.pool
 

@@ -5,11 +5,11 @@ use Rattle.std.specs.Option.{option_or}
 use Rattle.codes.specs.declared.cause.Cause.TheVariants.{NotForwarded}
 use Rattle.codes.specs.declared.refusal.Refusal.TheVariants.{PoolLength, OutputLength, UnknownTicket, NoContext}
 use Rattle.directories.specs.Choices.{Serving}
-use Rattle.accounts.specs.Receives.{Core, Received, Answer, received, answered, case_on, verdict_on, passing, pool_length, return_overhead}
+use Rattle.accounts.specs.Receives.{Core, Received, Answer, received, answered, case_on, verdict_on, passing, pool_length}
 use Rattle.flights.specs.declared.flight.Flight.{Flight}
 use Rattle.flights.specs.declared.flight.Mark.TheVariants.{InHand, Parked}
 use Rattle.flights.specs.Slots.{at, is_parked, in_hand}
-use Rattle.nas.specs.Returns.{returned, overwritten}
+use Rattle.nas.specs.Returns.{returned, overwritten, return_overhead}
 use Rattle.codes.specs.Refusals.{refuse}
 use Rattle.nas.specs.Uplinks.{Message}
 use Rattle.stores.specs.declared.context.Context.{Context}

@@ -3,19 +3,20 @@ ghost use Rattle.std.specs.Prelude.{◌≡◌, ℕ, [], ◌≤◌, ◌<◌, List
 ghost use Rattle.accounts.specs.Receives.{pool_length, most_flights, last_number, case_on, reserved, returned_with};
 ghost use Rattle.flights.specs.Slots.{at, in_hand};
 ghost use Rattle.flights.specs.declared.flight.Mark.TheVariants.{InHand};
+ghost use Rattle.nas.specs.Returns.{return_overhead};
 ghost use Rattle.nas.specs.Uplinks.{in_range, read};
 ghost use Rattle.nas.specs.Uplinks as uplinks;
 ghost use Rattle.nas.specs.Views.{decoded, seen};
 ghost use Rattle.records.specs.Records.{plain, record_fits};
 ghost use Rattle.router.specs.Fits.{flight_fits};
 ghost use Rattle.router.specs.Receiving.{Admitted, admitted_message, received_of, Fitting};
-ghost use Rattle.router.specs.Receiving.{asks, judged_by, verdict_for, ChoseRightly, Consulted, PutFits};
+ghost use Rattle.router.specs.Receiving.{asks, judged_by, verdict_for, ChoseRightly, PutFits};
 ghost use Rattle.router.specs.Receiving.{heard, ticket_in, told, written_to, AcceptedWith, answer_for};
 ghost use Rattle.router.specs.Receiving.{DoesReceive, IsOpen, OutputAfter, DirectoryAfter};
 ghost use Rattle.router.specs.Views.{core, model, contexts_of, OnlyFlights};
 ghost use Rattle.runs.specs.Calls.{Delivered, flight_of, PlacedIn};
 ghost use Rattle.runs.specs.Models.{state, slot_length};
-ghost use Rattle.verdicts.specs.Laws.{answer_of, Judged};
+ghost use Rattle.verdicts.specs.Judgements.{ConsultedFor, JudgedBy};
 ghost use Rattle.verdicts.specs.Verdicts.{smf_of};
 
 use super::Router;
@@ -99,11 +100,12 @@ impl<S: Store> Router<S> {
         controls: &ControlTable<'_>,
         directory: &mut D,
     ) -> Verdict
-        ensures judged { Judged (case_on (core self.now) (S.Store.contexts self.now.store) (judged_by D.Directory ue.entry controls.now directory.old) (decoded uplink.now)) (D.Directory.opened directory.old) (D.Directory.serves directory.old) (D.Directory.takes directory.old) result }
-        ensures unasked { asks (model self.now []) (judged_by D.Directory ue.entry controls.now directory.old) (Ok (decoded uplink.now)) ≡ false → directory.new ≡ directory.old }
-        ensures turn { asks (model self.now []) (judged_by D.Directory ue.entry controls.now directory.old) (Ok (decoded uplink.now)) ≡ true → D.Directory.turned directory.old result.used.slice result.used.dnn (answer_of (D.Directory.opened directory.old) (smf_of result.decision)) directory.new }
-        ensures opening { D.Directory.opened directory.new ≡ D.Directory.opened directory.old }
-        ensures serving { (s n m : ℕ) → D.Directory.serves directory.new s n m ≡ D.Directory.serves directory.old s n m }
+        ensures judged { let r = judged_by D.Directory ue.entry controls.now directory.old in
+            let c = case_on (core self.now) (contexts_of self.now) r (decoded uplink.now) in
+            JudgedBy D.Directory c directory.old result }
+        ensures directory { let r = judged_by D.Directory ue.entry controls.now directory.old in
+            let asked = asks (model self.now []) r (Ok (decoded uplink.now)) in
+            ConsultedFor D.Directory asked result directory.old directory.new }
     {
         let inquiry = inquiry(uplink, ue, self.configuration, &self.book);
         judge(&inquiry, &self.store, controls, directory)
@@ -125,7 +127,7 @@ impl<S: Store> Router<S> {
             ChoseRightly (model self.now []) r result (decoded uplink.now) }
         ensures directory { let r = judged_by D.Directory ue.entry controls.now directory.old in
             let asked = asks (model self.now []) r (Ok (decoded uplink.now)) in
-            Consulted D.Directory asked result directory.old directory.new }
+            ConsultedFor D.Directory asked result directory.old directory.new }
         ensures bounded { PutFits result ue.entry.number uplink.now.session }
     {
         self.judge(uplink, ue, controls, directory)
@@ -166,7 +168,7 @@ impl<S: Store> Router<S> {
         requires whole { length pool.old ≡ pool_length }
         requires slot { admission.now.slot < most_flights }
         requires fitting { Fitting admission.now.uplink }
-        requires output { length admission.now.uplink.payload.now + 13 ≤ length output.old }
+        requires output { length admission.now.uplink.payload.now + return_overhead ≤ length output.old }
         requires free { at self.old.flights.slots admission.now.slot ≡ None }
         ensures delivered { let x = decoded admission.now.uplink in
             let flight = flight_of admission.now.number ue x verdict in
@@ -227,7 +229,7 @@ impl<S: Store> Router<S> {
         ensures ticket { IsOpen (model self.new pool.new) result.delivery }
         ensures directory { let r = judged_by D.Directory ue.entry controls.now directory.old in
             let asked = asks (model self.old pool.old) r (Ok (decoded admission.now.uplink)) in
-            Consulted D.Directory asked result.verdict directory.old directory.new }
+            ConsultedFor D.Directory asked result.verdict directory.old directory.new }
     {
         let uplink = &admission.uplink;
         let verdict = self.decide(uplink, ue, controls, directory);
