@@ -27,7 +27,8 @@ fn number_of(added: Result<(), SetupError>) -> Option<u8> {
     }
 }
 
-// A DNN number, and the SMF that has to be chosen for it of an open directory; none where none serves.
+// A DNN number, and the SMF that has to be chosen for it, of an open directory; none where none serves
+// it.
 fn choices<D: Directory>(
     rt: &impl Abort,
     directory: &mut D,
