@@ -10,8 +10,8 @@ use Rattle.verdicts.specs.Laws.{Judged, answer_of}
 use Rattle.verdicts.specs.Verdicts.{smf_of}
 
 -- what the directory answered where it was asked, by the decision that it led to
-abbrev pub answer_to : {D : Type 0} → Ghosts D → D → Decision → Result ℕ NoSmf
-answer_to g directory d = answer_of (g.opened directory) (smf_of d)
+abbrev pub directory_answer : {D : Type 0} → Ghosts D → D → Decision → Result ℕ NoSmf
+directory_answer g directory d = answer_of (g.opened directory) (smf_of d)
 
 -- all that holds of the verdict v on a case, with this directory
 abbrev pub JudgedBy : {D : Type 0} → Ghosts D → Case → D → Verdict → Type 0
@@ -19,4 +19,4 @@ JudgedBy g c directory v = Judged c (g.opened directory) (g.serves directory) (g
 
 -- what becomes of the directory, which is asked or not, by the verdict v
 abbrev pub ConsultedFor : {D : Type 0} → Ghosts D → Bool → Verdict → D → D → Type 0
-ConsultedFor g asked v before after = Consulted g asked v.used (answer_to g before v.decision) before after
+ConsultedFor g asked v before after = Consulted g asked v.used (directory_answer g before v.decision) before after

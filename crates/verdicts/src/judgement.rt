@@ -2,7 +2,7 @@
 ghost use Rattle.std.specs.Prelude.{◌≡◌, true};
 ghost use Rattle.directories.specs.Consultations.{Consulted};
 ghost use Rattle.verdicts.specs.Cases.{posed};
-ghost use Rattle.verdicts.specs.Judgements.{answer_to, ConsultedFor, JudgedBy};
+ghost use Rattle.verdicts.specs.Judgements.{directory_answer, ConsultedFor, JudgedBy};
 ghost use Rattle.verdicts.specs.Rules.{has_choice};
 ghost use Rattle.verdicts.specs.Verdicts.{chosen, smf_of, verdict};
 
@@ -20,7 +20,7 @@ use stores::Store;
 // To the SMF that the directory chooses, or back where it names none.
 fn choose<D: Directory>(directory: &mut D, used: SliceDnn, emergency: bool) -> Decision
     ensures value { result ≡ chosen emergency (D.Directory.opened directory.old) (smf_of result) }
-    ensures directory { let answer = answer_to D.Directory directory.old result in
+    ensures directory { let answer = directory_answer D.Directory directory.old result in
         Consulted D.Directory true used answer directory.old directory.new }
 {
     match directory.choose(used) {
