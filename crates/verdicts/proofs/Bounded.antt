@@ -1,15 +1,14 @@
 -- Where all that is told and that stands is in bounds, so is the context that a verdict establishes.
-use Rattle.std.proofs.Common.{rules, ◌≡◌, ℕ, zero, suc, ◌≤◌, Bool, true, false, cond, ◌&&◌, ◌||◌, ◌⊎◌, eqb, ltb, leb, List, [], ◌∷◌, length, Some, None, Option, unwrap_or, option_map, sym, refl, ap, ◌∙◌, subst, inl, inr, arith}
+use Rattle.std.proofs.Common.{rules, ◌≡◌, ℕ, zero, suc, ◌≤◌, Bool, true, false, cond, ◌&&◌, ◌||◌, ◌⊎◌, eqb, ltb, leb, List, [], ◌∷◌, length, Some, None, Option, unwrap_or, option_map, sym, refl, ap, ◌∙◌, subst, inl, inr}
 use Rattle.std.specs.List.{find, list_any, list_all}
 use Rattle.std.proofs.lemmas.Bool.{and_parts, and_from, eqb-true, false≢true}
-use Rattle.std.proofs.lemmas.Bool.Decides.{nat_tests}
 use Rattle.codes.specs.declared.request_type.RequestType.TheVariants.{Initial}
 use Rattle.codes.specs.declared.slice_dnn.SliceDnn.{SliceDnn}
 use Rattle.codes.specs.Sessions.{session_fits}
 use Rattle.records.specs.declared.known_line.KnownLine.{KnownLine}
 use Rattle.records.specs.declared.subscription_line.SubscriptionLine.{SubscriptionLine}
 use Rattle.records.specs.Firsts.{default_dnn}
-use Rattle.records.specs.Records.{in_book, limit_fits, subscription_fits, known_fits}
+use Rattle.records.specs.Records.{in_book, subscription_fits, known_fits}
 use Rattle.stores.specs.declared.context.Context.{Context}
 use Rattle.stores.specs.Contexts.{pair_fits, fits, lookup}
 use Rattle.verdicts.specs.declared.decision.Decision.{Decision}
@@ -63,7 +62,7 @@ module _ (n : ℕ) (c : Case) (serves : ℕ → ℕ → ℕ → Bool) (b : InBou
   lines : Lines
   lines =
       let p = (and_parts (ltb 0 c.asked.ue.number) _ b.record_in).1 in
-      let q = (and_parts (limit_fits c.asked.ue.session_limit) _ p).1 in
+      let q = (and_parts (session_fits c.asked.ue.session_limit) _ p).1 in
       let r = (and_parts (leb (length c.asked.ue.subscriptions) 32) _ q).1 in
       let s = (and_parts (leb (length c.asked.ue.known) 15) _ r).1 in
       and_parts (list_all (subscription_fits n) c.asked.ue.subscriptions) (list_all (known_fits n) c.asked.ue.known) s
@@ -138,5 +137,5 @@ module _ (n : ℕ) (c : Case) (serves : ℕ → ℕ → ℕ → Bool) (b : InBou
       go (Return cause) f z = search rules
       go (Establish m emergency) f z =
           let below : ltb v.used.dnn 65 ≡ true = ap (λ (w : SliceDnn). ltb w.dnn 65) e ∙ dnn_below in
-          let pair : pair_fits c.asked.ue.number c.asked.session ≡ true = grind (arith, nat_tests, number_fits, b.session_in) in
+          let pair : pair_fits c.asked.ue.number c.asked.session ≡ true = and_from _ _ number_fits b.session_in in
           ap (λ (o : Option Context). fits (unwrap_or o x)) (sym z) ∙ and_from _ _ pair (and_from _ _ (h m (ap smf_of f)) below)
