@@ -96,14 +96,10 @@ impl<S: Store> Router<S> {
         output: &mut [u8],
         message: &[u8],
     ) -> Result<Answer, Refusal>
-        ensures does {
-            let r = heard D.Directory ue.entry controls.now directory.old pool.old output.old message.now in
-            DoesReceive (model self.old pool.old) r output.new result (model self.new pool.new)
-        }
-        ensures lawful {
-            let r = heard D.Directory ue.entry controls.now directory.old pool.old output.old message.now in
-            LawfulOver pool.old pool.new self.old self.new (receive_entry (model self.old pool.old) r output.new result)
-        }
+        ensures does { let r = heard D.Directory ue.entry controls.now directory.old pool.old output.old message.now in
+            DoesReceive (model self.old pool.old) r output.new result (model self.new pool.new) }
+        ensures lawful { let r = heard D.Directory ue.entry controls.now directory.old pool.old output.old message.now in
+            LawfulOver pool.old pool.new self.old self.new (receive_entry (model self.old pool.old) r output.new result) }
         ensures output { MatchResult result (λ a. OutputAfter output.old output.new a.delivery) (λ _. output.new ≡ output.old) }
         ensures ticket { IfOk result (λ a. IsOpen (model self.new pool.new) a.delivery) }
         ensures directory { let r = handed_by D.Directory ue.entry controls.now.table.rows.now directory.old (length pool.old) (length output.old) message.now in MatchResult result (λ a. Consulted D.Directory (asks (model self.old pool.old) r (read message.now)) a.verdict directory.old directory.new) (λ _. directory.new ≡ directory.old) }
