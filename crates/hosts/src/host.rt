@@ -66,10 +66,8 @@ impl<S: Store> Host<S> {
         message: &[u8],
     ) -> Result<Answer, SetupError>
         ensures tickets { self.new.tickets ≡ self.old.tickets }
-        ensures given {
-            IfOk result (λ a.
-                Fresh (model self.new.router []).flights self.new.tickets.held.items a.delivery)
-        }
+        ensures given { IfOk result (λ a.
+            Fresh (model self.new.router []).flights self.new.tickets.held.items a.delivery) }
     {
         if pool == POOL_LENGTH {
             let pool = self.pool.as_mut_slice();

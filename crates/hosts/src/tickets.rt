@@ -51,10 +51,8 @@ impl Tickets {
 
     // The same, which is then no longer held here.
     pub(crate) fn take(&mut self, number: u32) -> Option<Ticket>
-        ensures taken {
-            MatchOption result (self.new.held.items ≡ self.old.held.items)
-                (λ t. TakenOut self.old.held.items t self.new.held.items)
-        }
+        ensures taken { MatchOption result (self.new.held.items ≡ self.old.held.items)
+            (λ t. TakenOut self.old.held.items t self.new.held.items) }
         ensures room { IfSome result (λ _. vec_len self.new.held < vec_capacity self.new.held) }
     {
         let i = self.place_of(number)?;
@@ -63,10 +61,8 @@ impl Tickets {
 
     // The last ticket, which is then no longer held here.
     pub(crate) fn take_last(&mut self) -> Option<Ticket>
-        ensures {
-            MatchOption result ((self.old.held.items ≡ []) × (self.new.held.items ≡ []))
-                (λ t. self.old.held.items ≡ self.new.held.items ++ t ∷ [])
-        }
+        ensures { MatchOption result ((self.old.held.items ≡ []) × (self.new.held.items ≡ []))
+            (λ t. self.old.held.items ≡ self.new.held.items ++ t ∷ []) }
     {
         self.held.pop()
     }

@@ -115,12 +115,7 @@ fn repick<S: Store>(rt: &impl Abort, router: &mut Router<S>, ticket: Ticket) -> 
     }
 }
 
-fn fail<S: Store>(
-    rt: &impl Abort,
-    router: &mut Router<S>,
-    host: &mut Host<'_>,
-    ticket: Ticket,
-) {
+fn fail<S: Store>(rt: &impl Abort, router: &mut Router<S>, host: &mut Host<'_>, ticket: Ticket) {
     match router.failed(&host.pool, &mut host.output, ticket) {
         Ok(length) => assert!(rt; host.output.get(..length) == Some(RETURN)),
         Err(_back) => panic!(rt; "not failed"),
