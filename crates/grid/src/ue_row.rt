@@ -118,6 +118,12 @@ impl Row for UeRow {
         self.ue
     }
 
+    // The number first: few of the rows in use that are looked at are this UE's.
+    #[tactic(auto, using(crate::proofs::Written::others_held))]
+    fn is_under(&self, key: &UeNumber) -> bool {
+        self.ue == *key && self.held > 0
+    }
+
     fn clear(&mut self) {
         *self = UeRow::new();
     }

@@ -9,8 +9,7 @@ use crate::row::Row;
 pub fn find_row<R: Row>(rows: &[R], key: &R::Key) -> Option<usize>
     ensures { Finds R.Row.free R.Row.named key.now rows.now result }
 {
-    rows.iter()
-        .position(|row| !row.is_free() && row.key() == *key)
+    rows.iter().position(|row| row.is_under(key))
 }
 
 /// The first row that is in use and has the key. None where there is none.
