@@ -43,7 +43,8 @@ impl TryFrom<Context> for ContextRow {
     type Error = NoRoom;
 
     ghost try_from_gives = { λ context r.
-        MatchResult r (λ x. (fits context ≡ true) × (x.held ≡ Some context)) (λ _. fits context ≡ false) };
+        MatchResult r (λ x. (fits context ≡ true) × (x.held ≡ Some context))
+        (λ _. fits context ≡ false) };
 
     fn try_from(context: Context) -> Result<ContextRow, NoRoom> {
         if !context.is_in_bounds() {

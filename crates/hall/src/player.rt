@@ -77,7 +77,8 @@ impl<'a> Player<'a> {
     }
 
     fn note_line(&mut self, number: u64, note: UeNote) -> Result<String, AllocError>
-        ensures { IfOk result (λ s. (o : Outcome) × (string_bytes s ≡ done_line number (note_verb note) o)) }
+        ensures { IfOk result (λ s.
+            (o : Outcome) × (string_bytes s ≡ done_line number (note_verb note) o)) }
     {
         let done = note.enter(self.stage.rt.alloc(), &mut self.stage.ues);
         self.done_line(number, note.verb(), done)

@@ -36,7 +36,7 @@ impl AsSlice<u8> for Name {
     }
 }
 
-// The place of the first name that is the same.
+/// The place of the first name that is the same, from 0; none where there is none.
 pub fn place_in<N: AsSlice<u8>>(names: &[N], octets: &[u8]) -> Option<usize>
     ensures { Numbers (names_of N.items names.now) octets.now (numbered result) }
 {

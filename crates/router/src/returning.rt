@@ -1,6 +1,7 @@
 // Writing what goes back to a UE.
 ghost use Rattle.std.specs.Prelude.{◌≡◌, ◌<◌, ◌≤◌, length, take, IfOk, OnErr};
 ghost use Rattle.codes.specs.Refusals.{numbered};
+ghost use Rattle.codes.specs.Sessions.{max_session};
 ghost use Rattle.nas.specs.Returns.{returned};
 ghost use Rattle.router.specs.Buffers.{FrontWritten, return_length};
 ghost use Rattle.nas.specs.Uplinks.{max_payload};
@@ -19,7 +20,7 @@ pub(crate) fn return_payload(
     requires some { 0 < length payload.now }
     requires few { length payload.now ≤ max_payload }
     requires first { 0 < session }
-    requires last { session ≤ 15 }
+    requires last { session ≤ max_session }
     ensures value { numbered result ≡ return_length (length output.old) payload.now session cause }
     ensures octets { IfOk result (λ n. take n output.new ≡ returned payload.now session cause) }
     ensures rest { IfOk result (λ n. FrontWritten n output.old output.new) }

@@ -56,7 +56,8 @@ fn parse_pairs(heap: Global, word: &[u8]) -> Result<Option<Vec<u8>>, AllocError>
 pub fn parse_octets(heap: Global, word: &[u8]) -> Result<Option<Vec<u8>>, AllocError>
     ensures value { IfOk result (λ o. option_map vec_items o ≡ octets_in word.now) }
     ensures reads_back { IfOk result (λ o. (xs : List ℕ) →
-        AllByRecursion (λ x. x < 256) xs → word.now ≡ octets_text xs → option_map vec_items o ≡ Some xs) }
+        AllByRecursion (λ x. x < 256) xs → word.now ≡ octets_text xs
+        → option_map vec_items o ≡ Some xs) }
 {
     match word {
         [] => Ok(None),

@@ -11,7 +11,8 @@ use crate::octets::octet_value;
 #[tactic(auto, using(crate::proofs::Codes::slice_back))]
 pub fn parse_slice(word: &[u8]) -> Option<u32>
     ensures value { result ≡ slice_in word.now }
-    ensures reads_back { (n : ℕ) → n < 2 ^ 32 → word.now ≡ octets_text (slice_octets n) → result ≡ Some n }
+    ensures reads_back { (n : ℕ) → n < 2 ^ 32 → word.now ≡ octets_text (slice_octets n)
+        → result ≡ Some n }
 {
     let &[a, b, c, d, e, f, g, h] = word else {
         return None;

@@ -1,5 +1,6 @@
 // A store's answer where it has no room for a context.
 ghost use Rattle.std.specs.Prelude.{◌≡◌};
+ghost use Rattle.codes.specs.Refusals.{refusal_number};
 ghost use Rattle.codes.specs.declared.refusal.Refusal.TheVariants as refusal;
 
 use codes::Refusal;
@@ -9,7 +10,7 @@ use codes::Refusal;
 pub struct NoRoom;
 
 impl From<NoRoom> for Refusal {
-    ghost from_gives = { λ _ r. r ≡ refusal.NoRoom };
+    ghost from_gives = { λ _ r. refusal_number r ≡ refusal_number refusal.NoRoom };
 
     fn from(_no_room: NoRoom) -> Refusal {
         Refusal::NoRoom

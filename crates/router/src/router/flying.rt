@@ -1,6 +1,7 @@
 // What the calls do that follow a receive.
 ghost use Rattle.std.specs.Prelude.{◌≡◌, ℕ, ◌≤◌, ◌<◌, List, IfSome, IfOk, IfErr, OnErr};
 ghost use Rattle.accounts.specs.Receives.{most_flights};
+ghost use Rattle.codes.specs.Sessions.{max_session};
 ghost use Rattle.flights.specs.Slots.{in_hand};
 ghost use Rattle.router.specs.Buffers.{FrontWritten};
 ghost use Rattle.router.specs.Calls.{DoesPayload, DoesTaken, DoesFailed, DoesPark, DoesPick, DoesReleased};
@@ -32,7 +33,7 @@ impl<S: Store> Router<S> {
     fn flight(&self, ticket: &Ticket) -> Option<Flight>
         ensures value { result ≡ in_hand self.now.flights.slots ticket.now.number ticket.now.slot }
         ensures slot { IfSome result (λ f. ticket.now.slot < most_flights) }
-        ensures session { IfSome result (λ f. (0 < f.session) × (f.session ≤ 15)) }
+        ensures session { IfSome result (λ f. (0 < f.session) × (f.session ≤ max_session)) }
         ensures length { IfSome result (λ f. (0 < f.length) × (f.length ≤ slot_length)) }
     {
         self.flights.in_hand(ticket.number, ticket.slot)
