@@ -129,8 +129,8 @@ impl<S: Store> Host<S> {
         })
     }
 
-    /// The octets of the payload of this number. It is refused where no ticket of it is held, and where a pool
-    /// has another length.
+    /// The octets of the payload of this number. It is refused where no ticket of it is held, and where a
+    /// pool has another length.
     pub fn payload(&self, heap: Global, number: u32, pool: usize) -> Result<Vec<u8>, SetupError> {
         let other = vec![in heap; 0; pool]?;
         let ticket = self.tickets.find(number).ok_or(Refusal::UnknownTicket)?;
