@@ -4,7 +4,7 @@ ghost use Rattle.std.specs.Prelude.{◌≡◌};
 use codes::SetupError;
 use stores::Store;
 
-/// The store that was lent comes back as it was.
+/// The store that was handed in comes back with the error, as it was.
 #[derive(Drop)]
 pub struct Unopened<S: Store> {
     pub error: SetupError,
