@@ -59,8 +59,7 @@ impl<S: Store> Router<S> {
         ensures store { result ≡ store_of self }
         ensures account { Accounted self result }
     {
-        let Router { store, .. } = self;
-        store
+        self.close()
     }
 
     // ---- the calls, with the law over all runs

@@ -1,4 +1,4 @@
-// Opening a router.
+// Opening a router, and ending it.
 ghost use Rattle.std.specs.Prelude.{◌≡◌, IfOk, MatchResult, true};
 ghost use Rattle.names.specs.Names.{GoodNames};
 ghost use Rattle.router.specs.Openings.{opening, opening_fits, IsOpened, OpensIf, CopiesIf};
@@ -57,5 +57,13 @@ impl<S: Store> Router<S> {
             }),
             Err(error) => Err(Unopened { error, store }),
         }
+    }
+
+    // The store that it owns.
+    pub(super) fn close(self) -> S
+        ensures { result ≡ store_of self }
+    {
+        let Router { store, .. } = self;
+        store
     }
 }
