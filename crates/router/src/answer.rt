@@ -3,7 +3,7 @@ use crate::ticket::Ticket;
 use codes::{RequestType, SessionId};
 use verdicts::Verdict;
 
-// Where the payload is.
+/// Where the payload of an accepted message is.
 #[derive(Debug)]
 pub enum Delivery {
     /// In the pool, for the SMF that the verdict names. The ticket has to be given back.
@@ -12,6 +12,7 @@ pub enum Delivery {
     Returned { length: usize },
 }
 
+/// What a router answers to a message that it accepts.
 #[derive(Debug)]
 pub struct Answer {
     /// The number of the payload, and of its ticket.

@@ -1,7 +1,8 @@
 // What a host holds of a payload in flight.
 ghost use Rattle.std.specs.Prelude.{◌≡◌};
 
-// Plain numbers, and no `Drop`: whoever has it can only give it to a call that takes it.
+/// What a host holds of a payload in flight: plain numbers, and no `Drop`, so that whoever has it can only give it
+/// to a call that takes it.
 #[derive(Debug)]
 pub struct Ticket {
     pub(crate) number: u32,
@@ -10,6 +11,7 @@ pub struct Ticket {
 }
 
 impl Ticket {
+    /// The number of the payload, from 1 to 4,294,967,295.
     pub fn number(&self) -> u32
         ensures { result ≡ self.now.number }
     {
