@@ -2,6 +2,7 @@
 use Rattle.std.specs.Prelude.{ℕ, Bool, false, cond, not, ◌&&◌, List, is_some, Some, None, Option, nat_le, nat_lt}
 use Rattle.std.specs.List.{find}
 use Rattle.tables.specs.Lists.{sum_of}
+use Rattle.tables.specs.Rows.{Apart}
 use Rattle.control.specs.declared.control_key.ControlKey.{ControlKey}
 use Rattle.control.specs.declared.control_key.ControlKey.TheVariants.{Dnn}
 use Rattle.control.specs.declared.control_line.ControlLine.{ControlLine}
@@ -34,6 +35,10 @@ octet_in (Some x) = octet_of x.held
 -- the back-off octet of the line of this key
 abbrev pub back_off_of : List ControlRow → ControlKey → Option ℕ
 back_off_of xs k = octet_in (find (row_has k) xs)
+
+-- no two lines have the same key
+abbrev pub Once : List ControlRow → Type 0
+Once xs = Apart is_free key_of xs
 
 -- how many lines there are
 abbrev pub line_count : List ControlRow → ℕ

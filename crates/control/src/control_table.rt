@@ -3,7 +3,7 @@ ghost use Rattle.std.specs.Prelude.{◌≡◌, Ok, if◌then◌else◌, length, 
 ghost use Rattle.codes.specs.declared.refusal.Refusal.TheVariants.{Opening};
 ghost use Rattle.codes.specs.Refusals.{refusal_number, refuse, numbered};
 ghost use Rattle.control.specs.Keys.{key_for};
-ghost use Rattle.control.specs.Lines.{back_off_of, rows_fit};
+ghost use Rattle.control.specs.Lines.{Once, back_off_of, rows_fit};
 ghost use Rattle.control.specs.Controls.{Empty, Setting, Clearing};
 
 use crate::control_key::ControlKey;
@@ -52,6 +52,7 @@ impl<'a> ControlTable<'a> {
         ensures made { is_ok result ≡ rows_fit (length rows.old) }
         ensures size { IfOk result (λ t. length t ≡ length rows.old) }
         ensures empty { IfOk result Empty }
+        ensures once { IfOk result Once }
         ensures refused { IfErr result (λ h. refusal_number h.refusal ≡ refusal_number Opening) }
         ensures handed_back { IfErr result (λ h. h.value ≡ rows.entry) }
     {
@@ -69,7 +70,8 @@ impl<'a> ControlTable<'a> {
     /// The back-off octet of the line of this key.
     #[tactic(auto, using(crate::proofs::Keyed::none_back_off, crate::proofs::Keyed::first_back_off))]
     pub fn back_off(&self, key: ControlKey) -> Option<u8>
-        ensures { result ≡ back_off_of self.now key }
+        ensures value { result ≡ back_off_of self.now key }
+        ensures once { Once self.now }
     {
         self.table.find(&key).and_then(|row| row.back_off())
     }
@@ -77,7 +79,8 @@ impl<'a> ControlTable<'a> {
     /// A line of this key: in the place of the one that there is, or one more. A kind that is not 1
     /// to 3 is refused, and a new key where every row has a line; the table is then as it was.
     pub fn set(&mut self, numbers: ControlNumbers, back_off: u8) -> Result<(), Refusal>
-        ensures { Setting (key_for numbers) back_off self.old self.new result }
+        ensures set { Setting (key_for numbers) back_off self.old self.new result }
+        ensures once { IfOk result (λ _. Once self.new) }
     {
         let key = ControlKey::try_from(numbers)?;
         self.table
@@ -89,7 +92,8 @@ impl<'a> ControlTable<'a> {
     /// by the same refusal; the table is then as it was.
     #[tactic(auto, using(crate::proofs::Keyed::clear_done, crate::proofs::Keyed::clear_refused))]
     pub fn clear(&mut self, numbers: ControlNumbers) -> Result<(), Refusal>
-        ensures { Clearing (key_for numbers) self.old self.new result }
+        ensures cleared { Clearing (key_for numbers) self.old self.new result }
+        ensures once { IfOk result (λ _. Once self.new) }
     {
         let key = ControlKey::try_from(numbers)?;
         if !self.table.remove(&key) {

@@ -105,10 +105,11 @@ impl Book {
         Ok(Book { names })
     }
 
-    /// How many names there are, which is never 0.
+    /// How many names there are, which is never 0. Whoever asks learns that they are good names.
     pub fn len(&self) -> usize
         ensures value { result ≡ length self.now }
         ensures bounds { (0 < result) × (result ≤ max_names) }
+        ensures good { GoodNames self.now }
     {
         self.names.len()
     }

@@ -4,8 +4,8 @@ use Rattle.control.specs.Keys.{key_in}
 use Rattle.control.proofs.Keyed.{key_known, set_told}
 use Rattle.control.proofs.control_table.ControlTable.set.Goals as goal
 
-pub returns : goal.returns
-returns c =
+pub returns-clause-set : goal.returns-clause-set
+returns-clause-set c =
     let n = c.args.numbers in
     let xs = c.self.inside.table.rows.now in
     let ys = c.set.new.self.rows.now in
