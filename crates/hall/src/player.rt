@@ -1,8 +1,10 @@
 // What plays a scenario: it does what each line asks, and prints what the line answers.
-ghost use Rattle.std.specs.Prelude.{IfOk, string_bytes};
+ghost use Rattle.std.specs.Prelude.{IfOk, map, string_bytes};
 ghost use Rattle.std.specs.Option.{option_map};
 ghost use Rattle.std.specs.Prelude.{◌≡◌};
+ghost use Rattle.scenario.specs.Words.{text};
 ghost use Rattle.hall.specs.Calls.{called};
+ghost use Rattle.hall.specs.Commands.{command_words};
 ghost use Rattle.hall.specs.Ends.{Outcome, outcome_of};
 ghost use Rattle.hall.specs.Lines.{Printed, PrintedIf, Answers};
 ghost use Rattle.hall.specs.Outcomes.{TellsDone, done_line};
@@ -124,6 +126,18 @@ impl<'a> Player<'a> {
         }
     }
 
+    // What the line of this number prints that has these words. It stands alone, and is not inlined, so
+    // that a line which asks for nothing does not pay for the place of a command.
+    #[inline(never)]
+    fn words_line(&mut self, number: u64, words: &[&[u8]]) -> Result<String, AllocError>
+        ensures { IfOk result (λ s.
+            PrintedIf self.old.stage.hall.directory self.old.stage.table number
+            (command_words (map text words.now)) (string_bytes s)) }
+    {
+        let command = parse_command(self.stage.rt.alloc(), words)?;
+        self.answer_line(number, command)
+    }
+
     // What the line of this number prints, if it prints anything.
     fn answer(&mut self, number: u64, line: &[u8]) -> Result<Option<String>, AllocError>
         ensures { IfOk result (λ o.
@@ -134,12 +148,13 @@ impl<'a> Player<'a> {
         let Some(words) = line_words(heap, line)? else {
             return Ok(None);
         };
-        let command = parse_command(heap, words.as_slice())?;
-        Ok(Some(self.answer_line(number, command)?))
+        Ok(Some(self.words_line(number, words.as_slice())?))
     }
 }
 
 impl LinePlayer for Player<'_> {
+    type Error = anyhow::Error;
+
     fn play_line(&mut self, number: u64, line: &[u8]) -> anyhow::Result<()> {
         if let Some(text) = self.answer(number, line)? {
             self.stage.rt.println(text)?;

@@ -1,5 +1,6 @@
 // What there is while a scenario is played, besides the router that is open.
-ghost use Rattle.std.specs.Prelude.{IfSome};
+ghost use Rattle.std.specs.Prelude.{◌≡◌, length, min, IfOk, IfSome};
+ghost use Rattle.control.specs.Controls.{Empty};
 ghost use Rattle.hall.specs.Asked.{wanted};
 ghost use Rattle.hall.specs.Effects.{OutcomeFor};
 ghost use Rattle.hall.specs.Ends.{outcome_of};
@@ -28,7 +29,9 @@ pub(crate) struct Stage<'a> {
 }
 
 // An empty table; none for a number of rows that no table has.
-fn make_table<'a>(space: &'a Bump, rows: usize) -> Result<Option<ControlTable<'a>>, AllocError> {
+fn make_table<'a>(space: &'a Bump, rows: usize) -> Result<Option<ControlTable<'a>>, AllocError>
+    ensures { IfOk result (λ o. IfSome o (λ t. (length t ≡ min rows 64) × Empty t)) }
+{
     let free = [ControlRow::free(); 64];
     let rows = space.try_alloc_slice_copy(&free[..rows.min(64)])?;
     let Ok(table) = ControlTable::new(rows) else {
@@ -38,11 +41,11 @@ fn make_table<'a>(space: &'a Bump, rows: usize) -> Result<Option<ControlTable<'a
 }
 
 impl<'a> Stage<'a> {
-    // Nothing but an empty control table.
-    pub(crate) fn new(
-        rt: &'a HostRuntime,
-        space: &'a Bump,
-    ) -> Result<Option<Stage<'a>>, AllocError> {
+    // Nothing but an empty control table of 64 rows.
+    pub(crate) fn new(rt: &'a HostRuntime, space: &'a Bump) -> Result<Option<Stage<'a>>, AllocError>
+        ensures rows { IfOk result (λ o. IfSome o (λ s. length s.table ≡ 64)) }
+        ensures empty { IfOk result (λ o. IfSome o (λ s. Empty s.table)) }
+    {
         let Some(table) = make_table(space, USUAL_ROWS)? else {
             return Ok(None);
         };

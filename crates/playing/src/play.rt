@@ -1,12 +1,15 @@
 // The loop over the lines of a scenario.
 use crate::line::without_feed;
 use std::alloc::Global;
-use std::io::{BufRead, BufReader, Stdin};
+use std::io::{self, BufRead, BufReader, Stdin};
 
 /// What plays a scenario, line by line.
 pub trait LinePlayer {
+    /// Why it stops before the text ends, which reading the text can be too.
+    type Error: From<io::Error> + Drop;
+
     /// Does what the line of this number asks for, and prints what it answers.
-    fn play_line(&mut self, number: u64, line: &[u8]) -> anyhow::Result<()>;
+    fn play_line(&mut self, number: u64, line: &[u8]) -> Result<(), Self::Error>;
 }
 
 /// Plays every line of the text, numbered from 1. The feed that ends a line is no part of it.
@@ -14,7 +17,7 @@ pub fn play_lines<P: LinePlayer>(
     player: &mut P,
     heap: Global,
     input: &mut BufReader<Stdin>,
-) -> anyhow::Result<()> {
+) -> Result<(), P::Error> {
     // A loop has to end, so the lines are counted; their answers print the number.
     let mut line = Vec::new(heap);
     for number in 1..u64::MAX {

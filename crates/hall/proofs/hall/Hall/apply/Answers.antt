@@ -10,4 +10,4 @@ pub returns-in_ok-set-in-Set-clause-outcome : goal.returns-in_ok-set-in-Set-clau
 returns-in_ok-set-in-Set-clause-outcome c =
     let n = c.in-Set.numbers in
     subst (λ ch. OutcomeFor c.args.self.now.directory c.args.table.now (wanted ch) Accepted) (sym c.in-Set.is)
-    (set_accepted (key_in n.kind n.slice n.dnn) _ _ _ c.set.result _ c.set.ensures c.in_ok-set-in-Set.was)
+    (set_accepted (key_in n.kind n.slice n.dnn) _ _ _ c.set.result _ c.set.ensures.set c.in_ok-set-in-Set.was)
