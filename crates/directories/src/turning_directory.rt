@@ -93,7 +93,8 @@ impl TurningDirectory {
     {
         self.sets
             .iter()
-            .filter(|set| set.smf > bound && set.is_for(wanted))
+            // The set's slice first: most sets are of another.
+            .filter(|set| set.is_for(wanted) && set.smf > bound)
             .map(|set| set.smf)
             .min()
     }

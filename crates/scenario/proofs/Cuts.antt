@@ -1,8 +1,9 @@
 -- A line is cut into its words at the spaces.
-use Rattle.std.proofs.Common.{◌≡◌, ℕ, ◌<◌, Bool, true, false, cond, not, eqb, List, [], ◌∷◌, ◌++◌, length, map, filter, Ok, Err, IfOk, vec_items, Bor, Vec, Result, sym, refl, ap, ◌∙◌, append_assoc, append-nil, arith}
-use Rattle.std.specs.List.{AllByRecursion, slice_split, onto_first}
-use Rattle.std.proofs.lemmas.Bool.{cond-false, ne_eqb}
-use Rattle.std.proofs.lemmas.Bool.Decides.{nat_tests}
+use Rattle.std.proofs.Common.{◌≡◌, ℕ, ◌+◌, ◌-◌, ◌<◌, ◌≤◌, List, [], ◌∷◌, ◌++◌, map, length, get_or, take, drop, Ok, Err, IfOk, vec_items, Bor, Vec, Result, sym, refl, ap, ◌∙◌, subst, append_assoc, append-nil, arith}
+use Rattle.std.specs.List.{between, AllByRecursion}
+use Rattle.std.proofs.lemmas.List.Edits.{length-between, between_more}
+use Rattle.std.proofs.lemmas.List.{drop_more, drop_all, map_push}
+use Rattle.std.proofs.lemmas.Bool.{cond-true, cond-false, eq-eqb, ne_eqb}
 use Rattle.scenario.specs.Words.{text, word_before, words_after, words, Word, spaced}
 
 kept : (w : List ℕ) (ws : List (List ℕ)) → 0 < length w → word_before w ws ≡ w ∷ ws
@@ -26,38 +27,62 @@ pub words_law : {Z E : Type 0} (line : List ℕ) (r : Result (Vec (Bor (List ℕ
 words_law line (Ok v) e = λ ws h f. e ∙ ap words f ∙ words_back ws h
 words_law line (Err x) e = tt
 
-abbrev pub is_space : ℕ → Bool
-is_space x = eqb x 0x20
+-- one slice more
+pub one_found : (rs : List (Bor (List ℕ))) (r : Bor (List ℕ)) {ts : List (Bor (List ℕ))} → ts ≡ rs ++ r ∷ [] → map text ts ≡ map text rs ++ text r ∷ []
+one_found rs r e = ap (map text) e ∙ map_push text rs r
 
-abbrev pub is_word : List ℕ → Bool
-is_word w = not (eqb (length w) 0)
+-- the words found, and the run from start to i with what is left, make the line's words
+abbrev pub Sofar : List ℕ → List (List ℕ) → ℕ → ℕ → Type 0
+Sofar line found start i = (start ≤ i) × (found ++ words_after (between start i line) (drop i line) ≡ words line)
 
--- the parts, where the first goes on from the run w
-abbrev onto : List ℕ → List (List ℕ) → List (List ℕ)
-onto w [] = w ∷ []
-onto w (v ∷ vs) = (w ++ v) ∷ vs
+pub moved : (line : List ℕ) (i : ℕ) {found to : List (List ℕ)} {start at : ℕ} → to ≡ found → at ≡ start → Sofar line found start i → Sofar line to at i
+moved line i {found} {to} {start} {at} e f h =
+    subst (λ ws. Sofar line ws at i) (sym e) (subst (λ s. Sofar line found s i) (sym f) h)
 
-first_kept : (w : List ℕ) (ws : List (List ℕ)) → filter is_word (w ∷ ws) ≡ word_before w (filter is_word ws)
-first_kept [] ws = refl
-first_kept (x ∷ w) ws = grind (arith, nat_tests)
+empty : (line : List ℕ) (start i : ℕ) → i ≤ start → between start i line ≡ []
+empty line start i l = let e : i - start ≡ 0 = omega arith in ap (λ n. take n (drop start line)) e
 
-onto_none : (vs : List (List ℕ)) → filter is_word (onto [] vs) ≡ filter is_word vs
-onto_none [] = refl
-onto_none (v ∷ vs) = refl
+module _ (line : List ℕ) (found : List (List ℕ)) (start i : ℕ) (h : Sofar line found start i) where
+  -- the octet at i is no space
+  pub go_on : i < length line → (get_or line i 0 ≡ 0x20 → ⊥) → Sofar line found start (i + 1)
+  go_on l k = (
+    omega (arith, h.0),
+    ap (λ w. found ++ words_after w (drop (i + 1) line)) (between_more line start i 0 h.0 l)
+        ∙ sym (ap (λ ws. found ++ ws) (ap (words_after (between start i line)) (drop_more line i 0 l) ∙ cond-false _ _ _ (ne_eqb _ 0x20 k)))
+        ∙ h.1,
+  )
 
-onto_one : (w : List ℕ) (x : ℕ) (vs : List (List ℕ)) → onto w (onto_first x vs) ≡ onto (w ++ x ∷ []) vs
-onto_one w x [] = refl
-onto_one w x (v ∷ vs) = ap (λ l. l ∷ vs) (sym (append_assoc w (x ∷ []) v))
+  -- the word that ends at i, where there is one, before the words past i
+  ended : (ws : List (List ℕ)) → words_after (between start i line) (drop i line) ≡ word_before (between start i line) ws → found ++ word_before (between start i line) ws ≡ words line
+  ended ws e = ap (λ l. found ++ l) (sym e) ∙ h.1
 
--- the next octet x ends the run w, or goes on with it
-next_kept : (w : List ℕ) (x : ℕ) (vs found more : List (List ℕ)) (b : Bool) → filter is_word (onto [] vs) ≡ found → filter is_word (onto (w ++ x ∷ []) vs) ≡ more → filter is_word (onto w (cond b ([] ∷ vs) (onto_first x vs))) ≡ cond b (word_before w found) more
-next_kept w x vs found more true e f = first_kept (w ++ []) vs ∙ (λ i. word_before (append-nil w i) ((sym (onto_none vs) ∙ e) i))
-next_kept w x vs found more false e f = ap (filter is_word) (onto_one w x vs) ∙ f
+  -- it is there from start on
+  with_word : i ≤ length line → start < i → (ws : List (List ℕ)) → found ++ word_before (between start i line) ws ≡ words line → (found ++ between start i line ∷ []) ++ ws ≡ words line
+  with_word l k ws e =
+      append_assoc found (between start i line ∷ []) ws ∙ ap (λ l. found ++ l) (sym (kept _ ws (omega (arith, length-between line start i l)))) ∙ e
 
-from_run : (w xs : List ℕ) → filter is_word (onto w (slice_split is_space xs)) ≡ words_after w xs
-from_run w [] = first_kept (w ++ []) [] ∙ ap (λ l. word_before l []) (append-nil w)
-from_run w (x ∷ xs) = next_kept w x (slice_split is_space xs) _ _ (is_space x) (from_run [] xs) (from_run (w ++ x ∷ []) xs)
+  with_none : i ≤ start → (ws : List (List ℕ)) → found ++ word_before (between start i line) ws ≡ words line → found ++ ws ≡ words line
+  with_none k ws e = ap (λ w. found ++ word_before w ws) (sym (empty line start i k)) ∙ e
 
--- the parts between the spaces, without the empty ones
-pub words_split : (line : List ℕ) → filter is_word (slice_split is_space line) ≡ words line
-words_split line = sym (onto_none (slice_split is_space line)) ∙ from_run [] line
+  at_space : i < length line → get_or line i 0 ≡ 0x20 → words_after (between start i line) (drop i line) ≡ word_before (between start i line) (words_after (between (i + 1) (i + 1) line) (drop (i + 1) line))
+  at_space l k =
+      ap (words_after (between start i line)) (drop_more line i 0 l) ∙ cond-true _ _ _ (eq-eqb _ 0x20 k)
+      ∙ ap (λ w. word_before (between start i line) (words_after w (drop (i + 1) line))) (sym (empty line (i + 1) (i + 1) (omega arith)))
+
+  at_end : length line ≤ i → words_after (between start i line) (drop i line) ≡ word_before (between start i line) []
+  at_end l = ap (words_after (between start i line)) (drop_all i line l)
+
+  -- the octet at i is a space, and a word ends there, or none
+  pub cut : i < length line → get_or line i 0 ≡ 0x20 → start < i → Sofar line (found ++ between start i line ∷ []) (i + 1) (i + 1)
+  cut l k s = (omega arith, with_word (omega arith) s _ (ended _ (at_space l k)))
+
+  pub pass : i < length line → get_or line i 0 ≡ 0x20 → i ≤ start → Sofar line found (i + 1) (i + 1)
+  pass l k s = (omega arith, with_none s _ (ended _ (at_space l k)))
+
+  -- the line ends at i, and a word with it, or none
+  pub cut_last : i ≡ length line → start < length line → found ++ between start (length line) line ∷ [] ≡ words line
+  cut_last l s =
+      ap (λ n. found ++ between start n line ∷ []) (sym l) ∙ sym (append-nil _) ∙ with_word (omega arith) (omega arith) [] (ended [] (at_end (omega arith)))
+
+  pub pass_last : i ≡ length line → length line ≤ start → found ≡ words line
+  pass_last l s = sym (append-nil found) ∙ with_none (omega arith) [] (ended [] (at_end (omega arith)))
