@@ -63,6 +63,55 @@ others_held x = count_same (other_in x 0) (λ j. is_some (place_at x.places j)) 
         ap (λ (t : Bool). t && is_some (context_at x j)) (not_from_false (eqb j 0) (ne_eqb j 0 (λ z. omega (arith, z, a))))
         ∙ some_mapped (context_of x.ue j) (place_at x.places j)
 
+-- the filled places are those of the other sessions, and the session's own
+others_kept : (x : UeRow) (k : ℕ) → others_in x k + cond (is_some (context_at x k)) 1 0 ≡ held_count x.places
+others_kept x k = go (cases_Bool (ltb 0 k && ltb k 16))
+  where
+    apart : (j : ℕ) → (j ≡ k → ⊥) → other_in x k j ≡ is_some (place_at x.places j)
+    apart j h =
+        ap (λ (t : Bool). t && is_some (context_at x j)) (not_from_false (eqb j k) (ne_eqb j k h))
+        ∙ some_mapped (context_of x.ue j) (place_at x.places j)
+
+    own : other_in x k k ≡ false
+    own = ap (λ (t : Bool). not t && is_some (context_at x k)) (eq-eqb k k refl)
+
+    go : ((ltb 0 k && ltb k 16) ≡ true) ⊎ ((ltb 0 k && ltb k 16) ≡ false) → others_in x k + cond (is_some (context_at x k)) 1 0 ≡ held_count x.places
+    go (inl t) =
+        let h = and_parts (ltb 0 k) (ltb k 16) t in
+        let a = ltb-true 0 k h.0 in
+        let b = ltb-true k 16 h.1 in
+        let e = count_change (other_in x k) (λ j. is_some (place_at x.places j)) 1 15 k (omega (arith, a)) (omega (arith, b)) apart in
+        let s = ap (λ (t : Bool). cond {A = ℕ} t 1 0) (some_mapped (context_of x.ue k) (place_at x.places k)) in
+        let n = ap (λ (t : Bool). cond {A = ℕ} t 1 0) own in
+        omega (arith, e, s, n)
+    go (inr f) =
+        let none : is_some (context_at x k) ≡ false =
+        some_mapped (context_of x.ue k) (place_at x.places k) ∙ ap (λ (p : Option Place). is_some p) (cond-false (ltb 0 k && ltb k 16) (get_or x.places (k - 1) None) None f) in
+        let e = count_same (other_in x k) (λ j. is_some (place_at x.places j)) 1 15 (λ j a b. apart j (λ z. true≢false (sym (and_from _ _ (lt-ltb 0 j (omega (arith, a))) (lt-ltb j 16 (omega (arith, b)))) ∙ ap (λ i. ltb 0 i && ltb i 16) z ∙ f))) in
+        let n = ap (λ (t : Bool). cond {A = ℕ} t 1 0) none in
+        omega (arith, e, n)
+
+-- the session's own is one of them
+pub one_held : (x : UeRow) (k : ℕ) (b : Bool) → b ≡ is_some (context_at x k) → bool_byte b ≤ x.held
+one_held x k true e =
+    let h = others_kept x k in
+    let n = ap (λ (t : Bool). cond {A = ℕ} t 1 0) e in
+    let c = x.counted in
+    omega (arith, h, n, c)
+one_held x k false e = omega arith
+
+pub others_but : (x : UeRow) (k : ℕ) (b : Bool) → b ≡ is_some (context_at x k) → x.held - bool_byte b ≡ others_in x k
+others_but x k true e =
+    let h = others_kept x k in
+    let n = ap (λ (t : Bool). cond {A = ℕ} t 1 0) e in
+    let c = x.counted in
+    omega (arith, h, n, c)
+others_but x k false e =
+    let h = others_kept x k in
+    let n = ap (λ (t : Bool). cond {A = ℕ} t 1 0) e in
+    let c = x.counted in
+    omega (arith, h, n, c)
+
 held_after : (x : UeRow) (k : ℕ) (o : Option Place) → length x.places ≡ 15 → 0 < k → k < 16 → held_count (set x.places (k - 1) o) + cond (is_some (context_at x k)) 1 0 ≡ x.held + cond (is_some o) 1 0
 held_after x k o n a b =
     let e = held_written x.places k o n a b in

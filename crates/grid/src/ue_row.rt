@@ -23,7 +23,7 @@ pub struct UeRow {
 }
 
 impl UeRow {
-    ghost use Rattle.grid.specs.Grids.{place_of, context_at, other_in, others_in, emergency_in, is_free, Writes};
+    ghost use Rattle.grid.specs.Grids.{place_of, context_at, others_in, emergency_in, is_free, Writes};
 
     pub(crate) fn new() -> UeRow
         ensures { is_free result ≡ true }
@@ -44,19 +44,12 @@ impl UeRow {
         self.places[usize::from(session) - 1].map(|place| place.context(self.ue, session))
     }
 
-    fn has_other(&self, session: SessionId, other: SessionId) -> bool
-        ensures { result ≡ other_in self.now session other }
-    {
-        other != session && self.context(other).is_some()
-    }
-
-    // How many sessions other than this one have a context.
+    // How many sessions other than this one have a context: all that have one, less this one.
+    #[tactic(auto, using(crate::proofs::Written::others_but, crate::proofs::Written::one_held))]
     pub(crate) fn count_others(&self, session: SessionId) -> usize
         ensures { result ≡ others_in self.now session }
     {
-        (1..16)
-            .filter(|&other| self.has_other(session, other))
-            .count()
+        usize::from(self.held) - usize::from(self.context(session).is_some())
     }
 
     fn has_other_emergency(&self, session: SessionId, other: SessionId) -> bool
