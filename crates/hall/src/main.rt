@@ -17,6 +17,7 @@ mod parse_call;
 mod parse_change;
 mod parse_note;
 mod parse_opening;
+mod play_error;
 mod player;
 mod stage;
 mod ue_note;
@@ -40,7 +41,7 @@ fn play_all<'a>(rt: &'a HostRuntime, space: &'a Bump) -> anyhow::Result<()> {
     let mut player = Player::new(stage);
     let played = play_lines(&mut player, heap, &mut input);
     player.end();
-    played
+    Ok(played?)
 }
 
 fn main(rt: HostRuntime) -> anyhow::Result<()> {

@@ -6,6 +6,8 @@ ghost use Rattle.hall.specs.Ends.{outcome_of, reason};
 ghost use Rattle.hall.specs.Outcomes.{accepted_line, refused_line, Tells, TellsDone};
 
 use crate::change::{Change, StoreKind};
+use crate::directory_kind::DirectoryKind;
+use crate::directory_state::DirectoryState;
 use crate::not_done::NotDone;
 use crate::verb::Verb;
 use crate::word::Word;
@@ -24,9 +26,11 @@ fn accepted_line(heap: Global, change: &Change) -> Result<String, AllocError>
         }
         Change::Store(StoreKind::Flat(rows)) => format!(in heap; "store flat {rows}"),
         Change::Store(StoreKind::Grid) => format!(in heap; "store grid"),
-        Change::Directory(kind) => format!(in heap; "directory {}", Word(*kind)),
+        Change::Directory(DirectoryKind::List) => format!(in heap; "directory list"),
+        Change::Directory(DirectoryKind::Turning) => format!(in heap; "directory turning"),
         Change::Serve(_) => format!(in heap; "serve"),
-        Change::Mark(state) => format!(in heap; "mark {}", Word(*state)),
+        Change::Mark(DirectoryState::Open) => format!(in heap; "mark open"),
+        Change::Mark(DirectoryState::Closed) => format!(in heap; "mark closed"),
         Change::Control(rows) => format!(in heap; "control {rows}"),
         Change::Set(_, _) => format!(in heap; "set"),
         Change::Clear(_) => format!(in heap; "clear"),

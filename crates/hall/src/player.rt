@@ -1,10 +1,8 @@
 // What plays a scenario: it does what each line asks, and prints what the line answers.
-ghost use Rattle.std.specs.Prelude.{IfOk, map, string_bytes};
+ghost use Rattle.std.specs.Prelude.{IfOk, string_bytes};
 ghost use Rattle.std.specs.Option.{option_map};
 ghost use Rattle.std.specs.Prelude.{◌≡◌};
-ghost use Rattle.scenario.specs.Words.{text};
 ghost use Rattle.hall.specs.Calls.{called};
-ghost use Rattle.hall.specs.Commands.{command_words};
 ghost use Rattle.hall.specs.Ends.{Outcome, outcome_of};
 ghost use Rattle.hall.specs.Lines.{Printed, PrintedIf, Answers};
 ghost use Rattle.hall.specs.Outcomes.{TellsDone, done_line};
@@ -18,6 +16,7 @@ use crate::hall_router::HallRouter;
 use crate::not_done::NotDone;
 use crate::opening::Opening;
 use crate::outcome::{not_done_line, outcome_line};
+use crate::play_error::PlayError;
 use crate::stage::Stage;
 use crate::ue_note::UeNote;
 use crate::verb::Verb;
@@ -64,7 +63,9 @@ impl<'a> Player<'a> {
         }
     }
 
-    // Opens a router in the place of the one that is open, which is ended then.
+    // Opens a router in the place of the one that is open, which is ended then. It is not inlined, so that no
+    // other line pays for the room on the stack that a grid store takes.
+    #[inline(never)]
     fn open_router(&mut self, opening: Opening) -> Result<(), NotDone> {
         let router = self.stage.open_router(opening)?;
         mem::replace(&mut self.router, router).end();
@@ -126,18 +127,6 @@ impl<'a> Player<'a> {
         }
     }
 
-    // What the line of this number prints that has these words. It stands alone, and is not inlined, so
-    // that a line which asks for nothing does not pay for the place of a command.
-    #[inline(never)]
-    fn words_line(&mut self, number: u64, words: &[&[u8]]) -> Result<String, AllocError>
-        ensures { IfOk result (λ s.
-            PrintedIf self.old.stage.hall.directory self.old.stage.table number
-            (command_words (map text words.now)) (string_bytes s)) }
-    {
-        let command = parse_command(self.stage.rt.alloc(), words)?;
-        self.answer_line(number, command)
-    }
-
     // What the line of this number prints, if it prints anything.
     fn answer(&mut self, number: u64, line: &[u8]) -> Result<Option<String>, AllocError>
         ensures { IfOk result (λ o.
@@ -148,18 +137,20 @@ impl<'a> Player<'a> {
         let Some(words) = line_words(heap, line)? else {
             return Ok(None);
         };
-        Ok(Some(self.words_line(number, words.as_slice())?))
+        let command = parse_command(heap, words.as_slice())?;
+        Ok(Some(self.answer_line(number, command)?))
     }
 }
 
 impl LinePlayer for Player<'_> {
-    type Error = anyhow::Error;
+    type Error = PlayError;
 
-    fn play_line(&mut self, number: u64, line: &[u8]) -> anyhow::Result<()> {
+    fn play_line(&mut self, number: u64, line: &[u8]) -> Result<(), PlayError> {
+        // A line with no answer asks for nothing, so for no control table either.
         if let Some(text) = self.answer(number, line)? {
             self.stage.rt.println(text)?;
+            self.stage.renew_table()?;
         }
-        self.stage.renew_table()?;
         Ok(())
     }
 }
