@@ -1,5 +1,8 @@
 -- What stands in the hall after a change.
-use Rattle.std.specs.Prelude.{◌≡◌, Some}
+use Rattle.std.specs.Prelude.{◌≡◌, ℕ, true, List, Option, None, Some, length}
+use Rattle.control.specs.declared.control_row.ControlRow.{ControlRow}
+use Rattle.control.specs.Controls.{Empty}
+use Rattle.control.specs.Lines.{rows_fit}
 use Rattle.hall.specs.declared.hall.Hall.{Hall}
 use Rattle.hall.specs.Ends.{Outcome}
 use Rattle.hall.specs.Changes.{Change, book, store, directory, serve, mark, control, set, clear}
@@ -34,3 +37,8 @@ HallAfter h (control rows) o g =
     (g.wanted_rows ≡ after o (Some rows) h.wanted_rows) × SameBook h g × SameStore h g × SameDirectory h g
 HallAfter h (set line octet) o g = g ≡ h
 HallAfter h (clear line) o g = g ≡ h
+
+-- the control table that stands once the rows that were wanted are there: where so many make one, a new and empty one
+abbrev pub Renewed : Option ℕ → List ControlRow → List ControlRow → Type 0
+Renewed None before now = now ≡ before
+Renewed (Some rows) before now = rows_fit rows ≡ true → (length now ≡ rows) × Empty now

@@ -1,5 +1,5 @@
 // What plays a scenario: it does what each line asks, and prints what the line answers.
-ghost use Rattle.std.specs.Prelude.{IfOk, string_bytes};
+ghost use Rattle.std.specs.Prelude.{IfNone, IfOk, None, string_bytes};
 ghost use Rattle.std.specs.Option.{option_map};
 ghost use Rattle.std.specs.Prelude.{◌≡◌};
 ghost use Rattle.hall.specs.Calls.{called};
@@ -127,11 +127,12 @@ impl<'a> Player<'a> {
         }
     }
 
-    // What the line of this number prints, if it prints anything.
+    // What the line of this number prints, if it prints anything. If not, nothing has moved.
     fn answer(&mut self, number: u64, line: &[u8]) -> Result<Option<String>, AllocError>
-        ensures { IfOk result (λ o.
+        ensures answers { IfOk result (λ o.
             Answers self.old.stage.hall.directory self.old.stage.table number
             line.now (option_map string_bytes o)) }
+        ensures quiet { IfOk result (λ o. IfNone o (self.new ≡ self.old)) }
     {
         let heap = self.stage.rt.alloc();
         let Some(words) = line_words(heap, line)? else {
@@ -145,7 +146,10 @@ impl<'a> Player<'a> {
 impl LinePlayer for Player<'_> {
     type Error = PlayError;
 
-    fn play_line(&mut self, number: u64, line: &[u8]) -> Result<(), PlayError> {
+    fn play_line(&mut self, number: u64, line: &[u8]) -> Result<(), PlayError>
+        ensures renewed { IfOk result (λ _.
+            self.old.stage.hall.wanted_rows ≡ None → self.new.stage.hall.wanted_rows ≡ None) }
+    {
         // A line with no answer asks for nothing, so for no control table either.
         if let Some(text) = self.answer(number, line)? {
             self.stage.rt.println(text)?;

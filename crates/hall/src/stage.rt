@@ -1,9 +1,11 @@
 // What there is while a scenario is played, besides the router that is open.
-ghost use Rattle.std.specs.Prelude.{◌≡◌, length, min, IfOk, IfSome};
+ghost use Rattle.std.specs.Prelude.{◌≡◌, None, is_some, length, min, IfOk, IfSome, IsSome};
 ghost use Rattle.control.specs.Controls.{Empty};
+ghost use Rattle.control.specs.Lines.{rows_fit};
 ghost use Rattle.hall.specs.Asked.{wanted};
 ghost use Rattle.hall.specs.Effects.{OutcomeFor};
 ghost use Rattle.hall.specs.Ends.{outcome_of};
+ghost use Rattle.hall.specs.Halls.{Renewed};
 
 use crate::change::Change;
 use crate::hall::Hall;
@@ -30,7 +32,8 @@ pub(crate) struct Stage<'a> {
 
 // An empty table; none for a number of rows that no table has.
 fn make_table<'a>(space: &'a Bump, rows: usize) -> Result<Option<ControlTable<'a>>, AllocError>
-    ensures { IfOk result (λ o. IfSome o (λ t. (length t ≡ min rows 64) × Empty t)) }
+    ensures made { IfOk result (λ o. is_some o ≡ rows_fit (min rows 64)) }
+    ensures table { IfOk result (λ o. IfSome o (λ t. (length t ≡ min rows 64) × Empty t)) }
 {
     let free = [ControlRow::free(); 64];
     let rows = space.try_alloc_slice_copy(&free[..rows.min(64)])?;
@@ -43,6 +46,7 @@ fn make_table<'a>(space: &'a Bump, rows: usize) -> Result<Option<ControlTable<'a
 impl<'a> Stage<'a> {
     // Nothing but an empty control table of 64 rows.
     pub(crate) fn new(rt: &'a HostRuntime, space: &'a Bump) -> Result<Option<Stage<'a>>, AllocError>
+        ensures made { IfOk result (λ o. IsSome o) }
         ensures rows { IfOk result (λ o. IfSome o (λ s. length s.table ≡ 64)) }
         ensures empty { IfOk result (λ o. IfSome o (λ s. Empty s.table)) }
     {
@@ -72,7 +76,10 @@ impl<'a> Stage<'a> {
     }
 
     // Makes the control table that is wanted, if one is.
-    pub(crate) fn renew_table(&mut self) -> Result<(), AllocError> {
+    pub(crate) fn renew_table(&mut self) -> Result<(), AllocError>
+        ensures renewed { IfOk result (λ _. Renewed self.old.hall.wanted_rows self.old.table self.new.table) }
+        ensures left { IfOk result (λ _. self.new.hall.wanted_rows ≡ None) }
+    {
         let Some(rows) = self.hall.take_wanted_rows() else {
             return Ok(());
         };
