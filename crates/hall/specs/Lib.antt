@@ -13,4 +13,5 @@ pub mod Outcomes
 pub mod Replies
 pub mod Effects
 pub mod Halls
+pub mod Stages
 pub mod Lines

@@ -5,7 +5,7 @@ ghost use Rattle.control.specs.Lines.{rows_fit};
 ghost use Rattle.hall.specs.Asked.{wanted};
 ghost use Rattle.hall.specs.Effects.{OutcomeFor};
 ghost use Rattle.hall.specs.Ends.{outcome_of};
-ghost use Rattle.hall.specs.Halls.{Renewed};
+ghost use Rattle.hall.specs.Stages.{TableRenewed};
 
 use crate::change::Change;
 use crate::hall::Hall;
@@ -77,7 +77,7 @@ impl<'a> Stage<'a> {
 
     // Makes the control table that is wanted, if one is.
     pub(crate) fn renew_table(&mut self) -> Result<(), AllocError>
-        ensures renewed { IfOk result (λ _. Renewed self.old.hall.wanted_rows self.old.table self.new.table) }
+        ensures renewed { IfOk result (λ _. TableRenewed self.old self.new) }
         ensures left { IfOk result (λ _. self.new.hall.wanted_rows ≡ None) }
     {
         let Some(rows) = self.hall.take_wanted_rows() else {
